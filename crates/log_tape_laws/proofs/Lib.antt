@@ -2,5 +2,5 @@ mod Among
 mod Places
 mod Finds
 mod FittingEffects
-mod Marks
+pub mod Marks
 mod Segments

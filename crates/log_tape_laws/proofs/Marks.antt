@@ -86,7 +86,8 @@ run_bytes addr bytes =
       length-append (u32_bytes (length bytes)) bytes,
     )
 
-some_bytes : (event : Event) → 1 ≤ length (event_bytes event)
+-- each event takes a byte at least
+pub some_bytes : (event : Event) → 1 ≤ length (event_bytes event)
 unfolding event_bytes
 some_bytes (Enter func args) = omega arith
 some_bytes (Leave func) = omega arith

@@ -5,7 +5,6 @@ use Rattle.std.proofs.lemmas.List.{length-append}
 use Rattle.base.specs.declared.outcomes.Outcome.{Outcome}
 use Rattle.wasm_syntax.specs.declared.limits.TheConstants.{MAX_TRACE_BYTES}
 use Rattle.trace_model.specs.declared.events.Event.{Event}
-use Rattle.trace_model.specs.declared.events.Event.TheVariants.{Enter, Leave, Pre, Post, Grow, Seen, Table, Bytes, Entry, Global}
 use Rattle.trace_model.specs.declared.events.Log.{Log}
 use Rattle.trace_model.specs.Sink.{TookAlso}
 use Rattle.trace_model.proofs.SinkLemmas.{took_none, took_both}
@@ -13,6 +12,7 @@ use Rattle.trace_bytes.specs.Spelling.{event_bytes, log_bytes, log_header_bytes,
 use Rattle.trace_format.specs.Faults.{IsLogOf}
 use Rattle.trace_format.specs.Taken.{BeginsLog, IsLogTaken, TakesAll}
 use Rattle.trace_format.specs.declared.files.FormatFault.{FormatFault}
+use Rattle.log_tape_laws.proofs.Marks.{some_bytes}
 use Rattle.trace_reduce.specs.Reducer.{HasTaken, HasTakenSince, imports_of, most_of}
 use Rattle.trace_reduce.specs.Answers.{IsFirstUnbalanced}
 use Rattle.trace_reduce.proofs.Places.{exact_place}
@@ -49,19 +49,6 @@ all_taken before now (event ∷ later) all =
     (all_taken all.0 now later all.2)
 
 -- ---- a log has no more events than the bytes that encode it
-
-some_bytes : (event : Event) → 1 ≤ length (event_bytes event)
-unfolding event_bytes
-some_bytes (Enter func args) = omega arith
-some_bytes (Leave func) = omega arith
-some_bytes (Pre callee) = omega arith
-some_bytes (Post result) = omega arith
-some_bytes (Grow pages) = omega arith
-some_bytes Seen = omega arith
-some_bytes (Table size) = omega arith
-some_bytes (Bytes addr bytes) = omega arith
-some_bytes (Entry index func) = omega arith
-some_bytes (Global global value) = omega arith
 
 events_within : (events : List Event) → length events ≤ length (flat_map event_bytes events)
 events_within [] = omega arith

@@ -32,6 +32,11 @@ use Rattle.replay_module_laws.specs.Plans.{AreFit, CallsFit, NextFits, PlanFits,
 use Rattle.replay_module_laws.specs.Written.{IsConstantSegment, IsConstantTape}
 use Rattle.replay_module_laws.proofs.Outside.{types_imported}
 
+-- a choice between a fault and what else there is gives nothing if there is nothing else
+pub cond_none : {o : Option ℕ} (b : Bool) → cond b (Some 0) o ≡ None → o ≡ None
+cond_none true h = cc
+cond_none false h = h
+
 -- ---- lists by places
 
 abbrev AllAt : {X : Type 0} → (ℕ → X → Type 0) → List X → Type 0
@@ -306,7 +311,3 @@ module _ (m : Module) (valid : IsValid m) where
             subst (λ n. AllByRecursion (AreFit m (original_type m n).results) own)
             (get_or_from_slice_get (import_types m) i ty 0 f) (begins.1 i own g));
       }
-    where
-      cond_none : {o : Option ℕ} (b : Bool) → cond b (Some 0) o ≡ None → o ≡ None
-      cond_none true h = cc
-      cond_none false h = h

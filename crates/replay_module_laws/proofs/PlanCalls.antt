@@ -1,5 +1,5 @@
 -- The calls of each import in the plan of a tape, in the order in which they begin; and the whole plan.
-use Rattle.std.proofs.Common.{◌≡◌, ℕ, zero, suc, ◌<◌, List, [], ◌∷◌, length, map, Option, Some, None, Bool, true, false, cond, refl, sym, ap, ◌∙◌, subst, arith}
+use Rattle.std.proofs.Common.{◌≡◌, ℕ, zero, suc, ◌<◌, List, [], ◌∷◌, length, map, Option, Some, Bool, true, false, cond, refl, sym, ap, ◌∙◌, subst, arith}
 use Rattle.std.specs.Prelude.{filter, nat_eq, replicate, slice_get, slice_set, All}
 use Rattle.std.specs.List.{AllByRecursion, slice_index_or}
 use Rattle.std.proofs.lemmas.Bool.Decides.{nat_tests}
@@ -13,7 +13,7 @@ use Rattle.trace_model.specs.declared.tapes.Tape.{Tape}
 use Rattle.trace_model.specs.Fitting.{IsFitting}
 use Rattle.replay_module_spec.specs.Plans.{innermost, left_of, plan_of, with_origin, with_segment}
 use Rattle.replay_module_laws.specs.PlanLaws.{HasSegmentsOf, IsInOrder, is_call_of}
-use Rattle.replay_module_laws.proofs.FittingPlans.{left_length}
+use Rattle.replay_module_laws.proofs.FittingPlans.{cond_none, left_length}
 use Rattle.replay_module_laws.proofs.PlanSegments.{begun_count, first_is, follows, inner_ordered, left_ordered, left_sum, only_sum}
 
 -- the first segment of each call
@@ -108,7 +108,7 @@ plan_has m tape fits =
     let left = left_of imports tape.segments in
     let flow =
     follows m tape.segments (length tape.segments) 0 [] (omega arith)
-    (fits_from (nat_eq (length tape.segments) 0) fits) in
+    (cond_none (nat_eq (length tape.segments) 0) fits) in
     let ordered = left_ordered imports tape.segments in
     let few = begun_count imports 0 tape.segments flow in
     record {
@@ -123,7 +123,3 @@ plan_has m tape fits =
           omega (arith, sum, only);
       calls = λ import below. left_begins import imports tape.segments below;
     }
-  where
-    fits_from : {o : Option ℕ} (b : Bool) → cond b (Some 0) o ≡ None → o ≡ None
-    fits_from true h = cc
-    fits_from false h = h

@@ -7,6 +7,7 @@ use Rattle.std.proofs.lemmas.Bool.Decides.{nat_tests}
 use Rattle.std.proofs.lemmas.List.Sums.{sum_by-cons}
 use Rattle.base.proofs.Booleans.{and_parts}
 use Rattle.base.proofs.Options.{and_then_some, cond_none_some, cond_some}
+use Rattle.std.proofs.lemmas.List.{nil_from_length}
 use Rattle.wasm_syntax.specs.declared.modules.Module.{Module}
 use Rattle.wasm_syntax.specs.Index.{func_type, imported_funcs}
 use Rattle.trace_model.specs.declared.tapes.Origin.{Origin}
@@ -77,10 +78,6 @@ module _ (m : Module) where
   leaves is_last Trap [] next later last h = absurd (cc h)
   leaves is_last Trap (import ∷ opened) next later last h = last (cond_some is_last (Some (import ∷ opened)) next h).0
 
-  no_more : (later : List Segment) → length later ≡ 0 → later ≡ []
-  no_more [] e = refl
-  no_more (segment ∷ later) e = absurd (omega (arith, e))
-
   pub follows : (segments : List Segment) (count at : ℕ) (opened : List ℕ) → count ≡ at + length segments
       → unfit_from m count at opened segments ≡ None → Follow (imported_funcs m) (length opened) segments
   follows [] count at opened long h = tt
@@ -94,7 +91,7 @@ module _ (m : Module) where
         length c.0,
         length s.0,
         comes at segment.origin opened c.0 c.1,
-        leaves is_last segment.next c.0 s.0 later (λ last. no_more later (none_after at count (length later) long last))
+        leaves is_last segment.next c.0 s.0 later (λ last. nil_from_length later (none_after at count (length later) long last))
             e.1,
         follows later count (suc at) s.0 (omega (arith, long)) s.2,
       )

@@ -1,7 +1,7 @@
 -- A run with an outcome is replayed by the replay module of the tape that it needs.
 use Rattle.std.proofs.Common.{◌≡◌, ℕ, suc, ◌≤◌, List, [], ◌∷◌, ◌++◌, Ok, length, refl, sym, ap, ◌∙◌, subst, arith}
 use Rattle.std.proofs.lemmas.Slice.Zip.{AllZip-long}
-use Rattle.std.proofs.lemmas.List.{append-nil, length-append}
+use Rattle.std.proofs.lemmas.List.{append-nil, length-append, nil_from_length}
 use Rattle.wasm_syntax.specs.declared.limits.TheConstants.{MAX_TAPE_WEIGHT}
 use Rattle.wasm_syntax.specs.declared.modules.Module.{Module}
 use Rattle.wasm_syntax.specs.Index.{all_globals}
@@ -74,15 +74,11 @@ all_effects : (segments : List Segment) (changes : List (List Effect)) → AreEf
 all_effects segments changes are same =
     let long = AllZip-long (λ (segment : Segment) made. AreSameChanges made segment.effects) are.taken changes
     are.effects in
-    let none = none_left are.left
+    let none = nil_from_length are.left
     (let e = sym long ∙ same ∙ ap (λ (l : List Segment). length l) are.parts ∙ length-append are.taken are.left in
     omega (arith, e)) in
     subst (λ l. AreEffectsOf l changes)
     (sym (are.parts ∙ ap (λ l. are.taken ++ l) none ∙ append-nil are.taken)) are.effects
-  where
-    none_left : (left : List Segment) → length left ≡ 0 → left ≡ []
-    none_left [] h = refl
-    none_left (segment ∷ left) h = cc
 
 -- the history that the finished run of a replay module shows is the one that it replays
 shown_in_end : ItemsHoldHistories → ItemsShowProjections → (m replay : Module) (history : List Entry) (outcome : Outcome)

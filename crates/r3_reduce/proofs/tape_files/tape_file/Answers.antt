@@ -1,4 +1,4 @@
-use Rattle.std.proofs.Common.{rules, ◌≡◌, inr, Err, subst}
+use Rattle.std.proofs.Common.{rules, inr, Err, subst}
 use Rattle.trace_reduce.specs.Answers.{IsAnswer}
 use Rattle.trace_reduce.specs.Reducer.{imports_of, most_of}
 use Rattle.r3_reduce.proofs.TakenEvents.{unbalanced_log}
