@@ -75,7 +75,7 @@ kept_block kept block size total at address (inr long) same within =
     ap (λ b. with_block address b []) (fill_by_all (λ k. f (at + k)) block size 0 long same)
     ∙ sym (ap (λ b. with_block address b []) (block_at f size total at within))
 
--- the segments of so many blocks are that of the first and those of the others
+-- the segments of a number of blocks are that of the first and those of the others
 pub blocks_from : (size count place : ℕ) (bytes : List ℕ) → place < count
     → with_block (place * size) (take size (drop (place * size) bytes)) []
     ++ block_segments size (count - (place + 1)) ((place + 1) * size) (drop ((place + 1) * size) bytes)
@@ -141,7 +141,7 @@ all_made size count place bytes made all is_last are =
     ∙ ap (λ n. made ++ block_segments size n (place * size) (drop (place * size) bytes)) (sym none)
     ∙ are
 
--- the number of blocks of so many pages
+-- the number of blocks of a number of pages
 pub block_count : (kept : List ℕ) (pages count : ℕ) → count ≡ pages
     → count * 16 ≡ length (all_bytes kept (pages * 65536)) / 4096
 block_count kept pages count is =

@@ -63,13 +63,6 @@ closed_last index funcs elems =
     ∙ sym (run_segments index funcs [])
     ∙ sym (ap (map run_segment) (last_run index funcs)))
 
--- an entry that is there belongs to the run
-grown : (index func : ℕ) (funcs : List ℕ) (later : List (Option ℕ))
-    → func_runs index (there (funcs ++ func ∷ []) ++ later) ≡ func_runs index (there funcs ++ Some func ∷ later)
-grown index func funcs later =
-    ap (λ entries. func_runs index (entries ++ later)) (map-append (λ f. Some f) funcs (func ∷ []))
-    ∙ ap (func_runs index) (append_assoc (there funcs) (Some func ∷ []) later)
-
 -- the entries from an index on are that of the index and the others
 next_item : {X : Type 0} (f : ℕ → X) (n i : ℕ) → i < n
     → drop i (map f (range_with_len 0 n)) ≡ f i ∷ drop (i + 1) (map f (range_with_len 0 n))

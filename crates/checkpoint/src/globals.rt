@@ -9,7 +9,7 @@ use recorder::Frozen;
 use std::alloc::Global;
 use wasm_syntax::{Global as GlobalDef, Globals, Item, List, Val};
 
-/// The known values of so many globals, from an index on.
+/// The known values of a number of globals, from an index on.
 pub(crate) fn frozen_values(
     alloc: Global,
     frozen: &Frozen,

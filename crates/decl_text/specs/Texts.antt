@@ -37,7 +37,7 @@ abbrev pub count_of : Items → ℕ
 count_of no_items = 0
 count_of (item d ds) = suc (count_of ds)
 
--- a list of at most so many types; a longer one has the wrong form itself, whatever its items are
+-- a list of at most a number of types; a longer one has the wrong form itself, whatever its items are
 abbrev pub types_in : (most : ℕ) → Option Items → Result (List ValType) DeclFault
 types_in most None = Err (Shape [])
 types_in most (Some ds) = if nat_lt most (count_of ds) then Err (Shape []) else items_from type_of 0 ds

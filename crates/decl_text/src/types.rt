@@ -59,14 +59,14 @@ fn read_types(alloc: Global, values: &[Value]) -> Result<ValTypes, DeclFault>
     Ok(List::from_vec(found))
 }
 
-/// Whether a list has more than so many items.
+/// Whether a list has more than a number of items.
 fn is_longer(values: &[Value], most: usize) -> bool
     ensures { result ≡ nat_lt most (count_of (items_view values.now)) }
 {
     values.len() > most
 }
 
-/// A list of at most so many types.
+/// A list of at most a number of types.
 fn types_up_to(alloc: Global, value: &Value, most: usize) -> Result<ValTypes, DeclFault>
     ensures { Gives result (types_of most (view value.now)) }
 {
@@ -81,7 +81,7 @@ fn types_up_to(alloc: Global, value: &Value, most: usize) -> Result<ValTypes, De
     }
 }
 
-/// A list of at most so many types under a required key.
+/// A list of at most a number of types under a required key.
 pub(crate) fn types_under(
     alloc: Global,
     object: &Value,

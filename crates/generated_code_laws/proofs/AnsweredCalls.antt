@@ -6,7 +6,7 @@ use Rattle.std.proofs.lemmas.Bool.Decides.{nat_tests}
 use Rattle.std.proofs.lemmas.List.{length-map, length-take}
 use Rattle.std.proofs.lemmas.List.FromFn.{length-range_with_len}
 use Rattle.std.proofs.lemmas.Option.{slice_get-map, slice_get_within}
-use Rattle.base.proofs.Lists.{get_after_by}
+use Rattle.base.proofs.Lists.{get_after_by, set_there}
 use Rattle.base.specs.declared.opcodes.TheConstants.{I32_DIV_U, I32_REM_U}
 use Rattle.wasm_syntax.specs.declared.values.Val.{Val}
 use Rattle.wasm_syntax.specs.declared.values.ValType.{ValType}
@@ -25,7 +25,7 @@ use Rattle.history_spec.specs.declared.entries.Entry.TheVariants.{Enter, Step}
 use Rattle.history_spec.specs.Code.{Code, code_of, definition, i32_value, signature, types_of, zero_of}
 use Rattle.history_spec.specs.Store.{Store}
 use Rattle.history_spec.specs.Configuration.{place, Label, Frame, Activation, InModule, InImport, point, at_point}
-use Rattle.history_spec.specs.Instruction.{Execution, Did, Traps, NoRule, Goes, Calls, Returns, on, gives, takes, calls, with_local, execute}
+use Rattle.history_spec.specs.Instruction.{on, gives, takes, calls, with_local}
 use Rattle.history_spec.specs.Settle.{Continues, settle_result, deliver}
 use Rattle.history_spec.specs.Step.{Running, step_result, after_entries, after_instruction, after_settling, call_function, enter_defined, frame_of, step}
 use Rattle.history_spec.specs.Projection.{Side, Import, side, shown_entries, caller_side, shown_call, shown_step}
@@ -36,7 +36,8 @@ use Rattle.replay_module_spec.specs.Segments.{segments_code}
 use Rattle.replay_module_spec.specs.Functions.{group_call, group_count, group_nest, group_type}
 use Rattle.replay_module_spec.specs.Fragments.{start_index}
 use Rattle.record_replay_spec.specs.TapeRun.{pause}
-use Rattle.replay_run_spec.specs.Items.{Item, Makes, Changes, Steps, change_at, changes_of, entries_in, is_block, target_of}
+use Rattle.record_replay_spec.specs.Observations.{nest_observations, plain_observations}
+use Rattle.replay_run_spec.specs.Items.{Item, Makes, Changes, Steps, changes_of, entries_in, is_block}
 use Rattle.replay_run_spec.specs.Steps.{StepCount}
 use Rattle.generated_code_laws.specs.Leads.{Watched, Place, Leads, IsOutside, InPlace, Behind, Standing, standing}
 use Rattle.generated_code_laws.proofs.Along.{entries_over}
@@ -47,7 +48,6 @@ use Rattle.generated_code_laws.specs.Counts.{changes_in, steps_in}
 use Rattle.generated_code_laws.proofs.Bounded.{most_before}
 use Rattle.generated_code_laws.proofs.DispatchSteps.{dispatch_items, dispatch_counted}
 use Rattle.generated_code_laws.proofs.Items.{changes_of_both}
-use Rattle.generated_code_laws.proofs.Effects.{set_there}
 use Rattle.replay_module_spec.specs.Merge.{layout_of}
 use Rattle.replay_module_laws.specs.Stores.{counters, with_own}
 use Rattle.replay_module_laws.specs.Codes.{IsAnswered, IsDefined, IsReplayCode, first_group, import_definition}
@@ -92,25 +92,15 @@ same_steps zero block = record { silent = refl; unchanged = refl }
 same_steps (suc count) block =
     let later = same_steps count block in record { silent = later.silent; unchanged = later.unchanged }
 
--- an instruction without a target changes nothing, whatever its result is
-pub unchanged_by : (globals : ℕ) (store : Store) (i : Instr) (rest : Nest) (e : Execution)
-    → ((operands : List Val) → target_of operands i ≡ None) → changes_of globals store (Plain i rest) e ≡ []
-unchanged_by globals store i rest (Did operands results found (Goes after frame)) none =
-    ap (change_at globals store after) (none operands)
-unchanged_by globals store i rest (Did operands results found (Calls frame func args)) none = refl
-unchanged_by globals store i rest (Did operands results found (Returns results')) none = refl
-unchanged_by globals store i rest (Traps kind operands found) none = refl
-unchanged_by globals store i rest NoRule none = refl
-
--- an instruction that changes nothing shows its step and its entries alone
+-- an instruction that observes nothing shows its step and its entries alone
 pub step_alone : (w : Watched) (start : Place) (frame : Frame) (i : Instr) (rest : Nest) (shown : List Entry)
-    → frame.at.rest ≡ Plain i rest → ((operands : List Val) → target_of operands i ≡ None)
+    → frame.at.rest ≡ Plain i rest → plain_observations start.config.store frame.values i ≡ []
     → outside_step w start frame shown ≡ Steps false ∷ map Makes shown
 step_alone w start frame i rest shown is none =
-    ap (λ nest. Steps (is_block nest) ∷ (map Changes (changes_of w.globals start.config.store nest
-    (execute w.program.code start.config.store frame)) ++ map Makes shown)) is
-    ∙ ap (λ changes. Steps false ∷ (map Changes changes ++ map Makes shown))
-    (unchanged_by w.globals start.config.store i rest (execute w.program.code start.config.store frame) none)
+    ap (λ nest. Steps (is_block nest)
+    ∷ (map Changes (changes_of w.globals (nest_observations start.config.store frame.values nest))
+    ++ map Makes shown)) is
+    ∙ ap (λ seen. Steps false ∷ (map Changes (changes_of w.globals seen) ++ map Makes shown)) none
 
 module _ (laws : StepLaws) (m : Module) (plan : Plan) (code : Code) (is : IsReplayCode m plan code) where
   abbrev w : Watched
@@ -148,7 +138,7 @@ module _ (laws : StepLaws) (m : Module) (plan : Plan) (code : Code) (is : IsRepl
           (entered labels rest number)
       calls_group labels rest number =
           subst (λ items. Leads w here.0 items (entered labels rest number))
-          (step_alone w here.0 frame (Call func) rest [] refl (λ operands. refl))
+          (step_alone w here.0 frame (Call func) rest [] refl refl)
           ((laws.leads w here.0 frame s.below entries [] (entered labels rest number)
           (record { stands = refl; makes = made; shows = shown; control = refl })).0
           (InPlace (import_side m s.frame.func outside)))
@@ -297,7 +287,7 @@ module _ (laws : StepLaws) (m : Module) (plan : Plan) (code : Code) (is : IsRepl
 
     local_there : slice_get s1.frame.locals local ≡ Some (i32_value number)
     local_there =
-        set_there s0.frame.locals local (zero_of I32) (i32_value number) free
+        set_there s0.frame.locals local (i32_value number) (slice_get_within s0.frame.locals local (zero_of I32) free)
 
     to_group : ReachesArm w s1 next_store [] local I32_DIV_U arms 5
         (LocalGet local ∷ Call func ∷ Return ∷ [])

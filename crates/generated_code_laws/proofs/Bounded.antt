@@ -11,14 +11,15 @@ use Rattle.trace_model.specs.declared.tapes.Origin.TheVariants.{Begin, Back, Imp
 use Rattle.trace_model.specs.declared.tapes.Segment.{Segment}
 use Rattle.trace_model.specs.Weight.{effect_weight, next_weight, segment_weight}
 use Rattle.history_spec.specs.declared.entries.Entry.{Entry}
-use Rattle.history_spec.specs.declared.entries.Entry.TheVariants.{HostCall, HostReturn, ImportCall, ImportReturn, Enter, Exit, Step, Trap, HostTrap}
+use Rattle.history_spec.specs.declared.entries.Entry.TheVariants.{ImportCall}
 use Rattle.replay_module_spec.specs.declared.plans.Plan.{Plan}
 use Rattle.replay_module_spec.specs.Plans.{innermost, around_innermost, left_of, with_origin, with_segment}
 use Rattle.replay_run_spec.specs.Items.{Item, Makes, Changes, Steps, entries_in}
+use Rattle.replay_run_spec.proofs.CallCounts.{calls_many}
 use Rattle.replay_run_spec.specs.Steps.{StepCount, StepsLeft, IsWithinBound, innermost_count, around_innermost as around_counts, no_steps, one_more, steps_left, with_entry, with_step}
 use Rattle.replay_module_laws.proofs.FittingPlans.{left_length, next_weighs}
 use Rattle.generated_code_laws.specs.Counts.{steps_in}
-use Rattle.generated_code_laws.proofs.CallsLeft.{none_replicated, set_is, set_length, set_other, replicate_length}
+use Rattle.generated_code_laws.proofs.CallsLeft.{none_replicated, set_is, set_other}
 
 -- ---- the bound at a place
 
@@ -246,21 +247,6 @@ around_same segment (Returns result) begun i = refl
 around_same segment Ends begun i = refl
 around_same segment Traps begun i = refl
 
-pub steps_many : (imports : ℕ) (items : List Item) → length (steps_left imports items).calls ≡ imports
-steps_many imports [] = replicate_length imports []
-steps_many imports (Changes change ∷ items) = steps_many imports items
-steps_many imports (Steps block ∷ items) = steps_many imports items
-steps_many imports (Makes (ImportCall import args) ∷ items) =
-    set_length (steps_left imports items).calls import _ ∙ steps_many imports items
-steps_many imports (Makes (ImportReturn import results) ∷ items) = steps_many imports items
-steps_many imports (Makes (HostCall func args) ∷ items) = steps_many imports items
-steps_many imports (Makes (HostReturn func results) ∷ items) = steps_many imports items
-steps_many imports (Makes (Enter func) ∷ items) = steps_many imports items
-steps_many imports (Makes (Exit func results) ∷ items) = steps_many imports items
-steps_many imports (Makes (Step func number operands results found) ∷ items) = steps_many imports items
-steps_many imports (Makes (Trap func number kind operands found) ∷ items) = steps_many imports items
-steps_many imports (Makes HostTrap ∷ items) = steps_many imports items
-
 -- the bound where control reaches the next segment
 module _ (plan : Plan) (imports : ℕ) (segment : Segment) (later : List Segment) (items rest : List Item)
     (silent : entries_in items ≡ [])
@@ -369,7 +355,7 @@ module _ (plan : Plan) (imports : ℕ) (segment : Segment) (later : List Segment
       within other number count h = go (nat_eq import other) refl
         where
           many : import < length s.calls
-          many = let e = steps_many imports (items ++ rest) in omega (arith, e, below)
+          many = let e = calls_many imports (items ++ rest) in omega (arith, e, below)
 
           many_calls : import < length next_calls
           many_calls = let e = left_length imports later in omega (arith, e, below)

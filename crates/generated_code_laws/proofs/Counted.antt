@@ -20,11 +20,11 @@ use Rattle.history_spec.specs.Instruction.{on, gives, takes, with_local}
 use Rattle.replay_module_spec.specs.Dispatch.{sequence}
 use Rattle.replay_module_spec.specs.Effects.{i32_const}
 use Rattle.replay_module_spec.specs.Functions.{count_code}
-use Rattle.replay_run_spec.specs.Items.{Steps, global_change}
+use Rattle.record_replay_spec.specs.Observations.{ReadsGlobal, on as on_part}
+use Rattle.replay_run_spec.specs.Items.{Steps, changes_of}
 use Rattle.generated_code_laws.specs.Leads.{Watched, Leads, IsOutside, Standing, standing}
 use Rattle.generated_code_laws.proofs.Along.{along}
 use Rattle.generated_code_laws.proofs.One.{begins, did}
-use Rattle.generated_code_laws.proofs.Effects.{set_there}
 use Rattle.replay_module_laws.specs.Stores.{counters, with_own}
 use Rattle.generated_code_laws.proofs.Sound.{IsSound}
 
@@ -113,7 +113,8 @@ module _ (w : Watched) (s : Standing) (outside : IsOutside w.layout s.frame.func
       (did w s outside store store [] (number ∷ []) labels labels first second at (at + 1) s.frame []
       (number ∷ []) None []
       (ap (λ o. on o (λ value. gives store (at_point s.frame (point [] labels first at)) (place second (at + 1)) [] []
-      (value ∷ []))) there) refl refl)
+      (value ∷ []))) there) refl
+      (ap (λ o. changes_of w.globals (on_part o (λ value. ReadsGlobal counter value ∷ []))) there))
       (along w _ _ _ (Steps false ∷ []) (replicate 3 (Steps false))
       (did w s outside store store (number ∷ []) (number ∷ []) labels labels second third (at + 1) (at + 1 + 1)
       counting.frame (number ∷ []) (number ∷ []) None []
@@ -140,5 +141,4 @@ module _ (w : Watched) (s : Standing) (outside : IsOutside w.layout s.frame.func
       (place rest (at + 1 + 1 + 1 + 1 + 1))
       operands rest' []))) there)
       goes
-      (ap (global_change w.globals counter) (set_there store.globals counter number sum there)
-      ∙ ap (λ b. cond b (Global counter sum ∷ []) []) own)))))
+      (ap (λ b. cond b (Global counter sum ∷ []) [] ++ []) own)))))

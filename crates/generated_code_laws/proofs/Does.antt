@@ -10,7 +10,8 @@ use Rattle.history_spec.specs.Store.{Store}
 use Rattle.history_spec.specs.Configuration.{Label, point, at_point}
 use Rattle.history_spec.specs.Instruction.{Did, Goes, execute}
 use Rattle.replay_module_spec.specs.Dispatch.{sequence}
-use Rattle.replay_run_spec.specs.Items.{Item, Changes, Steps, target_of, change_at}
+use Rattle.record_replay_spec.specs.Observations.{plain_observations}
+use Rattle.replay_run_spec.specs.Items.{Item, Changes, Steps, changes_of}
 use Rattle.generated_code_laws.specs.Leads.{Watched, Leads, IsOutside, Standing, standing}
 use Rattle.generated_code_laws.proofs.Along.{along}
 use Rattle.generated_code_laws.proofs.One.{begins, did}
@@ -74,7 +75,7 @@ module _ (w : Watched) (s : Standing) (outside : IsOutside w.layout s.frame.func
       → ((labels : List Label) (rest : Nest) (number : ℕ)
       → execute w.program.code store (at_point s.frame (point values labels (Plain i rest) number))
       ≡ Did operands results found (Goes after (at_point s.frame (point next labels rest (number + 1)))))
-      → change_at w.globals store after (target_of operands i) ≡ changes
+      → changes_of w.globals (plain_observations store values i) ≡ changes
       → Does w s store after values next (i ∷ []) (Steps false ∷ map Changes changes)
   does_one store after values next i operands results found changes executed changed labels rest number b =
       record {

@@ -1,11 +1,9 @@
 -- The code of each effect performs it.
-use Rattle.std.proofs.Common.{◌≡◌, ℕ, ◌+◌, ◌-◌, ◌*◌, ◌/◌, ◌<◌, ◌≤◌, ◌^◌, List, [], ◌∷◌, ◌++◌, length, take, drop, Option, Some, None, Bool, true, false, cond, nat_lt, nat_le, slice_get, slice_set, refl, sym, ap, ◌∙◌, subst, arith, length-append, option_map, option_and_then}
+use Rattle.std.proofs.Common.{◌≡◌, ℕ, ◌+◌, ◌-◌, ◌*◌, ◌/◌, ◌<◌, ◌≤◌, ◌^◌, List, [], ◌∷◌, ◌++◌, length, take, drop, Option, Some, None, Bool, true, false, cond, nat_lt, nat_le, slice_get, refl, sym, ap, ◌∙◌, subst, arith, length-append, option_map, option_and_then}
 use Rattle.std.specs.Prelude.{map, replicate, IfSome}
-use Rattle.std.specs.Option.{option_flatten}
 use Rattle.std.proofs.lemmas.Bool.Decides.{nat_tests}
 use Rattle.std.proofs.lemmas.List.{append-nil, length-replicate}
 use Rattle.std.proofs.lemmas.Option.{none-some}
-use Rattle.base.proofs.Lists.{item_there}
 use Rattle.base.proofs.Options.{map_some, cond_some}
 use Rattle.wasm_syntax.specs.declared.limits.TheConstants.{PAGE_SIZE}
 use Rattle.wasm_syntax.specs.declared.values.Val.{Val}
@@ -13,9 +11,12 @@ use Rattle.trace_model.specs.declared.tapes.Effect.{Effect}
 use Rattle.trace_model.specs.declared.tapes.Effect.TheVariants.{Grow, Table as GrowTable, Bytes, Entry as SetEntry, Global}
 use Rattle.trace_model.specs.Weight.{effect_weight}
 use Rattle.history_spec.specs.Store.{Store, Memory, Table, pages, zeros, grown_memory, grown_memory_if, grown_table, grown_table_if, with_entry, with_memory, with_table, with_global}
+use Rattle.history_spec.specs.Instantiation.{table_length}
 use Rattle.record_replay_spec.specs.TapeRun.{memory_of_size, table_of_size, memory_with, table_with, store_after_effect}
 use Rattle.replay_module_spec.specs.Effects.{Width, Eight, Four, Two, One, byte_count, store_widths, effect_code}
-use Rattle.replay_run_spec.specs.Items.{Item, Changes, Steps, change_at, entries_in, global_change, page_count, entry_count, MemorySize as OfMemory, TableSize as OfTable}
+use Rattle.record_replay_spec.specs.Known.{pages_of}
+use Rattle.record_replay_spec.specs.Observations.{Resizes, ResizesTable, WritesGlobal}
+use Rattle.replay_run_spec.specs.Items.{Item, Changes, Steps, change_of, entries_in}
 use Rattle.replay_run_spec.specs.Stretches.{AreSameChanges}
 use Rattle.replay_run_spec.specs.Steps.{StepCount}
 use Rattle.replay_run_spec.proofs.Histories.{changes_silent}
@@ -28,7 +29,7 @@ use Rattle.generated_code_laws.proofs.Does.{Does}
 use Rattle.generated_code_laws.proofs.StoredBytes.{memory_with_bytes, stores_items}
 use Rattle.generated_code_laws.proofs.WrittenItems.{bytes_placed}
 use Rattle.generated_code_laws.proofs.Runs.{stores_run, split}
-use Rattle.generated_code_laws.proofs.Effects.{does_global, does_entry, set_there}
+use Rattle.generated_code_laws.proofs.Effects.{does_global, does_entry}
 use Rattle.generated_code_laws.proofs.Growth.{does_growth}
 use Rattle.generated_code_laws.proofs.TableGrowth.{does_table_growth}
 use Rattle.generated_code_laws.proofs.Items.{changes_there, changes_still}
@@ -174,7 +175,7 @@ module _ (w : Watched) (s : Standing) (outside : IsOutside w.layout s.frame.func
       let less : pages memory ≤ size = grind (arith, nat_tests, c.0) in
       let grown = pages_grown memory larger (size - pages memory) c.1 in
       let is : pages larger ≡ size = omega (arith, grown, less) in
-      let cs = change_at w.globals store (with_memory store larger) (Some OfMemory) in
+      let cs = change_of w.globals (Resizes (pages memory) (pages larger)) in
       let own = are_growth cs in
       subst (λ st. IsMade w s store st (Grow size)) p.left
       (record {
@@ -189,11 +190,11 @@ module _ (w : Watched) (s : Standing) (outside : IsOutside w.layout s.frame.func
       })
     where
       changed : (memory larger : Memory) → store.memory ≡ Some memory → pages larger ≡ size
-          → page_count store.memory < size
-          → change_at w.globals store (with_memory store larger) (Some OfMemory) ≡ Grow size ∷ []
+          → pages_of store.memory < size
+          → change_of w.globals (Resizes (pages memory) (pages larger)) ≡ Grow size ∷ []
       changed memory larger e is greater =
-          let more : nat_lt (page_count store.memory) (pages larger) ≡ true =
-          grind (arith, nat_tests, is, greater) in
+          let here : pages_of store.memory ≡ pages memory = ap pages_of e in
+          let more : nat_lt (pages memory) (pages larger) ≡ true = grind (arith, nat_tests, is, here, greater) in
           ap (λ b. cond b (Grow (pages larger) ∷ []) []) more ∙ ap (λ n. Grow n ∷ []) is
 
   grow_table_made : (size : ℕ) → size < 2 ^ 32 → MakesIt (GrowTable size)
@@ -207,7 +208,7 @@ module _ (w : Watched) (s : Standing) (outside : IsOutside w.layout s.frame.func
       let less : length table.entries ≤ size = grind (arith, nat_tests, c.0) in
       let grown = entries_grown table larger (size - length table.entries) c.1 in
       let is : length larger.entries ≡ size = omega (arith, grown, less) in
-      let cs = change_at w.globals store (with_table store larger) (Some OfTable) in
+      let cs = change_of w.globals (ResizesTable (length table.entries) (length larger.entries) None) in
       let own = are_growth cs in
       subst (λ st. IsMade w s store st (GrowTable size)) p.left
       (record {
@@ -218,16 +219,19 @@ module _ (w : Watched) (s : Standing) (outside : IsOutside w.layout s.frame.func
         silent = own.silent;
         changes = λ greater.
             same_is (changes_in (map Changes cs ++ Steps false ∷ [])) (GrowTable size ∷ [])
-            (own.changes ∙ changed larger is greater);
+            (own.changes ∙ changed table larger p.there is greater);
         steps = (let one = own.steps in omega (arith, one));
         blocks = own.blocks;
       })
     where
-      changed : (larger : Table) → length larger.entries ≡ size → entry_count store.table < size
-          → change_at w.globals store (with_table store larger) (Some OfTable) ≡ GrowTable size ∷ []
-      changed larger is greater =
-          let more : nat_lt (entry_count store.table) (length larger.entries) ≡ true =
-          grind (arith, nat_tests, is, greater) in
+      changed : (table larger : Table) → store.table ≡ Some table → length larger.entries ≡ size
+          → table_length store.table < size
+          → change_of w.globals (ResizesTable (length table.entries) (length larger.entries) None)
+          ≡ GrowTable size ∷ []
+      changed table larger e is greater =
+          let here : table_length store.table ≡ length table.entries = ap table_length e in
+          let more : nat_lt (length table.entries) (length larger.entries) ≡ true =
+          grind (arith, nat_tests, is, here, greater) in
           ap (λ b. cond b (GrowTable (length larger.entries) ∷ []) []) more ∙ ap (λ n. GrowTable n ∷ []) is
 
   bytes_made : (address : ℕ) (bytes : List ℕ) → AreBytes bytes → MakesIt (Bytes address bytes)
@@ -255,25 +259,14 @@ module _ (w : Watched) (s : Standing) (outside : IsOutside w.layout s.frame.func
       let n =
       map_some (λ (all : List (Option ℕ)). record table { entries = all }) (with_entry table.entries index func)
       p.changed p.is in
-      let c =
-      cond_some (nat_lt index (length table.entries)) (Some (slice_set table.entries index func)) n.0 n.1 in
-      let within : index < length table.entries = grind (arith, nat_tests, c.0) in
-      let is : slice_set table.entries index func ≡ n.0 = (let q = c.1 in cc) in
-      let old = item_there table.entries index within in
-      let there : slice_get n.0 index ≡ Some func =
-      ap (λ l. slice_get l index) (sym is) ∙ set_there table.entries index old.0 func old.1 in
       let left : with_table store (record table { entries = n.0 }) ≡ after =
       ap (with_table store) n.2 ∙ p.left in
       subst (λ st. IsMade w s store st (SetEntry index func)) left
       (record {
-        items =
-            Steps false ∷ Steps false ∷ Steps false ∷ Changes
-            (SetEntry index (option_flatten (slice_get n.0 index))) ∷ [];
+        items = Steps false ∷ Steps false ∷ Steps false ∷ Changes (SetEntry index func) ∷ [];
         does = does_entry w s outside store table p.there index n.0 func n.1;
         silent = refl;
-        changes = λ any.
-            same_is (SetEntry index (option_flatten (slice_get n.0 index)) ∷ []) (SetEntry index func ∷ [])
-            (ap (λ o. SetEntry index (option_flatten o) ∷ []) there);
+        changes = λ any. same_is (SetEntry index func ∷ []) (SetEntry index func ∷ []) refl;
         steps = omega arith;
         blocks = refl;
       })
@@ -289,7 +282,7 @@ module _ (w : Watched) (s : Standing) (outside : IsOutside w.layout s.frame.func
       go (Some old) e ty h =
           let left : with_global store global value ≡ after = cc in
           let own : nat_lt global w.globals ≡ true = (let below = can.0 in grind (arith, nat_tests, below)) in
-          let cs = global_change w.globals global (Some value) in
+          let cs = change_of w.globals (WritesGlobal global value) in
           subst (λ st. IsMade w s store st (Global global value)) left
           (record {
             items = Steps false ∷ Steps false ∷ map Changes cs;

@@ -1,5 +1,6 @@
 -- The code of each effect does what the effect does to a store.
-use Rattle.std.proofs.Common.{◌≡◌, ℕ, zero, suc, ◌+◌, List, [], ◌∷◌, Option, Some, None, false, slice_get, slice_set, refl, ap, ◌∙◌}
+use Rattle.std.proofs.Common.{◌≡◌, ℕ, suc, ◌+◌, List, [], ◌∷◌, Option, Some, None, false, slice_get, refl, ap, ◌∙◌}
+use Rattle.std.proofs.lemmas.List.{append-nil}
 use Rattle.std.specs.Prelude.{map}
 use Rattle.std.specs.List.{slice_index_or}
 use Rattle.wasm_syntax.specs.declared.values.Val.{Val}
@@ -12,9 +13,10 @@ use Rattle.trace_model.specs.declared.tapes.Effect.TheVariants.{Entry as SetEntr
 use Rattle.history_spec.specs.Code.{i32_value}
 use Rattle.history_spec.specs.Store.{Store, Table, with_entry, with_table, with_global}
 use Rattle.history_spec.specs.Configuration.{place, Label, Frame, point, at_point}
-use Rattle.history_spec.specs.Instruction.{Operands, Did, Goes, on, pop, takes, gives, reference, table_result, execute}
+use Rattle.history_spec.specs.Instruction.{Operands, Did, Goes, on, pop, takes, gives, reference, referent, table_result, execute}
 use Rattle.replay_module_spec.specs.Effects.{i32_const, reference_code, effect_code}
-use Rattle.replay_run_spec.specs.Items.{Changes, Steps, target_of, change_at, global_change, entry_from}
+use Rattle.record_replay_spec.specs.Observations.{WritesEntry, WritesGlobal, plain_observations, set_observations, on as on_part}
+use Rattle.replay_run_spec.specs.Items.{Changes, Steps, change_of, changes_of}
 use Rattle.generated_code_laws.specs.Leads.{Watched, IsOutside, Standing}
 use Rattle.generated_code_laws.proofs.Does.{Does, does_both, does_one, does_const}
 
@@ -31,13 +33,6 @@ takes_value value = go value.ty value.bits
     go F32 bits = refl
     go F64 bits = refl
     go FuncRef bits = refl
-
-pub set_there : {X : Type 0} (items : List X) (i : ℕ) (old x : X) → slice_get items i ≡ Some old
-    → slice_get (slice_set items i x) i ≡ Some x
-set_there [] zero old x there = absurd (cc there)
-set_there [] (suc i) old x there = absurd (cc there)
-set_there (y ∷ items) zero old x there = refl
-set_there (y ∷ items) (suc i) old x there = set_there items i old x there
 
 module _ (w : Watched) (s : Standing) (outside : IsOutside w.layout s.frame.func) (store : Store) where
   -- a global is given a value of its type
@@ -59,20 +54,18 @@ module _ (w : Watched) (s : Standing) (outside : IsOutside w.layout s.frame.func
         gives (with_global store global (slice_index_or p.operands 0 old)) frame next p.operands p.rest []))
         (takes_value value)
 
-    changed_global : change_at w.globals store (with_global store global value)
-        (target_of (value ∷ []) (GlobalSet global))
-        ≡ global_change w.globals global (Some value)
-    changed_global = ap (global_change w.globals global) (set_there store.globals global old value there)
+    abbrev global_change : List Effect
+    global_change = change_of w.globals (WritesGlobal global value)
 
     pub does_global : Does w s store (with_global store global value) [] [] (Const value ∷ GlobalSet global ∷ [])
-        (Steps false ∷ Steps false ∷ map Changes (global_change w.globals global (Some value)))
+        (Steps false ∷ Steps false ∷ map Changes global_change)
     does_global =
         does_both w s store store (with_global store global value) [] (value ∷ []) []
         (Const value ∷ []) (GlobalSet global ∷ []) (Steps false ∷ [])
-        (Steps false ∷ map Changes (global_change w.globals global (Some value)))
+        (Steps false ∷ map Changes global_change)
         (does_const w s outside store [] value)
         (does_one w s outside store (with_global store global value) (value ∷ []) [] (GlobalSet global) (value ∷ []) []
-        None (global_change w.globals global (Some value)) sets_global changed_global)
+        None global_change sets_global (append-nil global_change))
 
   -- ---- entries
 
@@ -90,12 +83,13 @@ module _ (w : Watched) (s : Standing) (outside : IsOutside w.layout s.frame.func
       does_one w s outside store store values (reference (suc func) ∷ values) (RefFunc func) []
       (reference (suc func) ∷ []) None [] (λ labels rest number. refl) refl
 
+  referred : (func : Option ℕ) → referent (reference_to func).bits ≡ func
+  referred None = refl
+  referred (Some func) = refl
+
   module _ (table : Table) (is : store.table ≡ Some table) (index : ℕ) (entries : List (Option ℕ)) where
     abbrev after_entry_set : Store
     after_entry_set = with_table store (record table { entries = entries })
-
-    abbrev entry_change : Effect
-    entry_change = SetEntry index (entry_from (Some (record table { entries = entries })) index)
 
     sets_entry : (func : Option ℕ) → with_entry table.entries index func ≡ Some entries
         → (labels : List Label) (rest : Nest) (number : ℕ)
@@ -119,18 +113,26 @@ module _ (w : Watched) (s : Standing) (outside : IsOutside w.layout s.frame.func
         (with_entry table.entries index (Some func)))) is
         ∙ ap (table_result store frame (place rest (number + 1)) table operands []) done
 
+    changed_entry : (func : Option ℕ) → with_entry table.entries index func ≡ Some entries
+        → changes_of w.globals (plain_observations store (reference_to func ∷ i32_value index ∷ []) (TableSet 0))
+        ≡ SetEntry index func ∷ []
+    changed_entry func done =
+        ap (λ o. changes_of w.globals (on_part o (set_observations index (referent (reference_to func).bits)))) is
+        ∙ ap (λ f. changes_of w.globals (set_observations index f table)) (referred func)
+        ∙ ap (λ o. changes_of w.globals (on_part o (λ all. WritesEntry index func ∷ []))) done
+
     pub does_entry : (func : Option ℕ) → with_entry table.entries index func ≡ Some entries
         → Does w s store after_entry_set [] [] (effect_code (SetEntry index func))
-        (Steps false ∷ Steps false ∷ Steps false ∷ Changes (entry_change) ∷ [])
+        (Steps false ∷ Steps false ∷ Steps false ∷ Changes (SetEntry index func) ∷ [])
     does_entry func done =
         does_both w s store store after_entry_set [] (i32_value index ∷ []) []
         (i32_const index ∷ []) (reference_code func ∷ TableSet 0 ∷ []) (Steps false ∷ [])
-        (Steps false ∷ Steps false ∷ Changes (entry_change) ∷ [])
+        (Steps false ∷ Steps false ∷ Changes (SetEntry index func) ∷ [])
         (does_const w s outside store [] (i32_value index))
         (does_both w s store store after_entry_set (i32_value index ∷ []) (reference_to func ∷ i32_value index ∷ []) []
         (reference_code func ∷ []) (TableSet 0 ∷ []) (Steps false ∷ [])
-        (Steps false ∷ Changes (entry_change) ∷ [])
+        (Steps false ∷ Changes (SetEntry index func) ∷ [])
         (refers (i32_value index ∷ []) func)
         (does_one w s outside store after_entry_set (reference_to func ∷ i32_value index ∷ []) [] (TableSet 0)
         (i32_value index ∷ reference_to func ∷ []) [] None
-        (entry_change ∷ []) (sets_entry func done) refl))
+        (SetEntry index func ∷ []) (sets_entry func done) (changed_entry func done)))

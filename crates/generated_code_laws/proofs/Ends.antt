@@ -18,7 +18,7 @@ use Rattle.history_spec.specs.declared.entries.TrapKind.TheVariants.{Unreachable
 use Rattle.history_spec.specs.Code.{Code, code_of}
 use Rattle.history_spec.specs.Store.{Store}
 use Rattle.history_spec.specs.Configuration.{Label, Frame, Activation, InModule, InMain, InImport, point, at_point, topmost}
-use Rattle.history_spec.specs.Instruction.{to_caller, execute}
+use Rattle.history_spec.specs.Instruction.{to_caller}
 use Rattle.history_spec.specs.Settle.{deliver}
 use Rattle.history_spec.specs.Step.{after_entries, after_instruction, after_settling}
 use Rattle.history_spec.specs.Projection.{Side, Import, Original, Appended, side, shown_return, shown_step, shown_trap, trapped_on}
@@ -36,7 +36,7 @@ use Rattle.generated_code_laws.proofs.Relation.{AreBeside, Runs, imports_in, ret
 use Rattle.generated_code_laws.proofs.Sides.{appended_side, below_start, import_side, original_side}
 use Rattle.generated_code_laws.proofs.Settled.{delivered, returned, settled}
 use Rattle.generated_code_laws.proofs.Codes.{topmost_pushed}
-use Rattle.generated_code_laws.proofs.AnsweredCalls.{step_alone, unchanged_by}
+use Rattle.generated_code_laws.proofs.AnsweredCalls.{step_alone}
 use Rattle.generated_code_laws.proofs.Together.{Ending, none_first, IsPlayed, IsEnded, Follows}
 use Rattle.generated_code_laws.proofs.Bounded.{bounded_before, bounded_return, made_bounded, none_bounded}
 use Rattle.generated_code_laws.proofs.Parts.{follows_after, follows_settled}
@@ -85,7 +85,7 @@ module _ (laws : RunLaws) (m : Module) (plan : Plan) (code : Code) (store : Stor
         (Steps false ∷ []) behind_place
     group_returns labels number =
         subst (λ items. Leads (watched m code) here items behind_place)
-        (step_alone (watched m code) here frame Return Empty [] refl (λ operands. refl))
+        (step_alone (watched m code) here frame Return Empty [] refl refl)
         ((laws.single.leads (watched m code) here frame others entries [] behind_place
         (record {
           stands = refl;
@@ -157,8 +157,7 @@ module _ (laws : RunLaws) (m : Module) (plan : Plan) (code : Code) (store : Stor
                   ∙ ap (λ f. ImportReturn f results ∷ []) func;
               control = refl;
               known = inl (InPlace behind_side);
-              quiet = λ outside. unchanged_by (watched m code).globals beside Return Empty
-                  (execute code beside behind_frame) (λ operands. refl);
+              quiet = λ outside. refl;
               stretch = λ s here. (refl, refl);
               bounded = λ later keeps rest c.
                   bounded_before plan ([] ∷ begun) (left_of (imported_funcs m) segments).calls (imported_funcs m) 0 1
@@ -206,7 +205,7 @@ module _ (laws : RunLaws) (m : Module) (plan : Plan) (code : Code) (store : Stor
         record {
           items = Steps false ∷ Makes HostTrap ∷ [];
           ends = subst (λ items. Ends (watched m code) here items HostTrapped)
-              (step_alone (watched m code) here frame Unreachable Empty (HostTrap ∷ []) refl (λ operands. refl))
+              (step_alone (watched m code) here frame Unreachable Empty (HostTrap ∷ []) refl refl)
               ((laws.single.ends (watched m code) here frame below entries (HostTrap ∷ []) Trapped HostTrapped
               (base.func ∷ inside)
               (record {
@@ -244,7 +243,7 @@ module _ (laws : RunLaws) (m : Module) (plan : Plan) (code : Code) (store : Stor
       record {
         items = Steps false ∷ [];
         ends = subst (λ items. Ends (watched m code) here items Ended)
-            (step_alone (watched m code) here frame Return Empty [] refl (λ operands. refl))
+            (step_alone (watched m code) here frame Return Empty [] refl refl)
             ((laws.single.ends (watched m code) here frame (InMain [] ∷ []) entries [] Ended Ended []
             (record {
               stands = refl;

@@ -11,8 +11,10 @@ use Rattle.history_spec.specs.Store.{Store}
 use Rattle.history_spec.specs.Configuration.{Label, Frame, Activation, InModule, point, at_point}
 use Rattle.history_spec.specs.Instruction.{Did, Goes, execute}
 use Rattle.history_spec.specs.Settle.{Continues, settle_result, settle}
-use Rattle.history_spec.specs.Step.{Program, Running, StepResult, step_result, after_settling, after_entries, after_instruction, step}
+use Rattle.history_spec.specs.Step.{Running, StepResult, step_result, after_settling, after_entries, after_instruction, step}
 use Rattle.history_spec.specs.Projection.{Layout, side, shown_step}
+use Rattle.record_replay_spec.specs.Observations.{nest_observations}
+use Rattle.record_replay_spec.specs.ObservedStepLaws.{observed}
 use Rattle.replay_run_spec.specs.Inside.{inside_after_all}
 use Rattle.replay_run_spec.specs.Items.{Makes, Changes, Steps, is_block, changes_of, outside_items, entries_in, shown_items}
 use Rattle.generated_code_laws.specs.Leads.{Watched, Place, Leads, IsOutside, InPlace, Behind, Standing, standing, items_from}
@@ -43,12 +45,11 @@ settles f below values (label ∷ labels) (InIfElse ty body other rest) number e
 -- ---- what is shown
 
 module _ (layout : Layout) (func : ℕ) where
-  pub outside_is : IsOutside layout func → (globals : ℕ) (program : Program) (store : Store) (frame : Frame)
-      → outside_items (side layout func) globals program store frame
-      ≡ Steps (is_block frame.at.rest)
-      ∷ map Changes (changes_of globals store frame.at.rest (execute program.code store frame))
-  outside_is (InPlace e) globals program store frame = ap (λ s. outside_items s globals program store frame) e
-  outside_is (Behind e) globals program store frame = ap (λ s. outside_items s globals program store frame) e
+  pub outside_is : IsOutside layout func → (globals : ℕ) (store : Store) (frame : Frame)
+      → outside_items (side layout func) globals store frame
+      ≡ Steps (is_block frame.at.rest) ∷ map Changes (changes_of globals (observed store frame))
+  outside_is (InPlace e) globals store frame = ap (λ s. outside_items s globals store frame) e
+  outside_is (Behind e) globals store frame = ap (λ s. outside_items s globals store frame) e
 
   unseen : IsOutside layout func → (entry : Entry) → shown_step (side layout func) entry ≡ []
   unseen (InPlace e) entry = ap (λ s. shown_step s entry) e
@@ -78,9 +79,7 @@ module _ (w : Watched) (s : Standing) (outside : IsOutside w.layout s.frame.func
       → execute w.program.code store (at_point s.frame (point values labels rest number))
       ≡ Did operands results found (Goes after (at_point g (point next_values next_labels next_rest next_number)))
       → begins next_rest ≡ true
-      → changes_of w.globals store rest
-      (Did operands results found (Goes after (at_point g (point next_values next_labels next_rest next_number))))
-      ≡ changes
+      → changes_of w.globals (nest_observations store values rest) ≡ changes
       → Leads w (standing s store values labels rest number) (Steps (is_block rest) ∷ map Changes changes)
       (standing (record s { frame = g }) after next_values next_labels next_rest next_number)
   did store after values next_values labels next_labels rest next_rest number next_number g
@@ -116,7 +115,6 @@ module _ (w : Watched) (s : Standing) (outside : IsOutside w.layout s.frame.func
           let frame = at_point s.frame (point values labels rest number) in
           append-nil _
           ∙ ap (λ own. own ++ map Makes (step w.program here.config).entries)
-          (outside_is w.layout s.frame.func outside w.globals w.program store frame
-          ∙ ap (λ done. Steps (is_block rest) ∷ map Changes (changes_of w.globals store rest done)) executed
+          (outside_is w.layout s.frame.func outside w.globals store frame
           ∙ ap (λ own. Steps (is_block rest) ∷ map Changes own) changed)
           ∙ ap (λ (r : StepResult). Steps (is_block rest) ∷ map Changes changes ++ map Makes r.entries) stepped

@@ -14,13 +14,13 @@ use Rattle.history_spec.specs.declared.entries.Entry.TheVariants.{HostCall, Host
 use Rattle.history_spec.specs.Code.{Code}
 use Rattle.history_spec.specs.Store.{Store}
 use Rattle.history_spec.specs.Configuration.{Frame, Activation, InModule, InMain, InImport}
-use Rattle.history_spec.specs.Instruction.{execute}
 use Rattle.history_spec.specs.Settle.{SettleEnd, Continues, Finishes, NoRule as NoneHolds, SettleResult}
 use Rattle.history_spec.specs.Step.{Stuck, step_result, after_entries, after_settling, progress_of, step}
 use Rattle.history_spec.specs.Projection.{Original, side, shown_entries}
 use Rattle.replay_module_spec.specs.declared.plans.Plan.{Plan}
 use Rattle.replay_module_spec.specs.Plans.{left_of}
 use Rattle.record_replay_spec.specs.TapeRun.{TapeConfig, TapeProgress, tape_progress, Plays, Over, Disagrees, NoRule, after_step, origin_after}
+use Rattle.record_replay_spec.specs.ObservedStepLaws.{observed}
 use Rattle.replay_run_spec.specs.Inside.{inside_after_all, args_after_all}
 use Rattle.replay_run_spec.specs.Items.{Item, Makes, Changes, changes_of, is_block, Steps, entries_in}
 use Rattle.replay_run_spec.specs.Stretches.{Stretches, at_entry, stretches_from}
@@ -153,9 +153,7 @@ module _ (laws : RunLaws) (m : Module) (plan : Plan) (code : Code) where
     pub control : inside_after_all p.inside own_first ≡ inside
     pub known : IsKnown frame.func
     pub quiet : IsOutside (layout_of m) frame.func
-        → changes_of (watched m code).globals p.config.store frame.at.rest
-        (execute (watched m code).program.code p.config.store frame)
-        ≡ []
+        → changes_of (watched m code).globals (observed p.config.store frame) ≡ []
     pub stretch : (s : Stretches) → s.here ≡ []
         → ((at_entries first s).here ≡ []) × ((at_entries first s).later ≡ s.later)
     pub bounded : (later : List Entry) → AreWithinCalls later → (rest : List Item)
@@ -172,9 +170,7 @@ module _ (laws : RunLaws) (m : Module) (plan : Plan) (code : Code) where
     entries = first ++ tape.entries
 
     abbrev own_changes : List Effect
-    own_changes =
-        changes_of (watched m code).globals p.config.store frame.at.rest
-        (execute (watched m code).program.code p.config.store frame)
+    own_changes = changes_of (watched m code).globals (observed p.config.store frame)
 
     shows_all : (args : List Val) → shown_entries (layout_of m) p.inside args (own_first ++ own.entries) ≡ entries
     shows_all args =

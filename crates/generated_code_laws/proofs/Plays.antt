@@ -16,7 +16,7 @@ use Rattle.history_spec.specs.declared.entries.Entry.TheVariants.{Enter, HostCal
 use Rattle.history_spec.specs.Code.{Code, Definition, code_of, definition, signature, types_of}
 use Rattle.history_spec.specs.Store.{Store}
 use Rattle.history_spec.specs.Configuration.{place, Config, Label, Frame, Activation, InModule, point, at_point}
-use Rattle.history_spec.specs.Instruction.{Operands, on, takes, calls, execute}
+use Rattle.history_spec.specs.Instruction.{Operands, on, takes, calls}
 use Rattle.history_spec.specs.Settle.{NoRule as NoneHolds, SettleResult, settle_result, deliver}
 use Rattle.history_spec.specs.Step.{after_entries, after_instruction, after_settling, call_function, enter_defined, frame_of, enter_function, StepResult}
 use Rattle.history_spec.specs.Projection.{Side, Original, Appended, side, shown_call, shown_step}
@@ -34,7 +34,6 @@ use Rattle.replay_module_laws.specs.Codes.{IsReplayCode}
 use Rattle.generated_code_laws.proofs.Relation.{AreBeside, imports_in, waiting_frame, watched}
 use Rattle.generated_code_laws.proofs.Sides.{appended_side, below_start, none_imported, original_side}
 use Rattle.generated_code_laws.proofs.Settled.{none_settles, returned, settled}
-use Rattle.generated_code_laws.proofs.AnsweredCalls.{unchanged_by}
 use Rattle.generated_code_laws.proofs.Codes.{does_consts, pops_pushed}
 use Rattle.generated_code_laws.proofs.Together.{WithinBy, IsPlayed, Follows}
 use Rattle.generated_code_laws.proofs.Bounded.{bounded_before, made_bounded}
@@ -137,8 +136,7 @@ module _ (laws : RunLaws) (m : Module) (plan : Plan) (code : Code) (is : IsRepla
               ∙ ap (λ d. shown_call Appended d func args ++ []) func_side;
           control = refl;
           known = inl base_outside;
-          quiet = λ outside. unchanged_by (watched m code).globals beside (Call func) after_call
-              (execute code beside frame) (λ operands. refl);
+          quiet = λ outside. refl;
           stretch = λ s here. (refl, refl);
           bounded = λ later keeps rest c.
               bounded_before plan begun (left_of (imported_funcs m) segments).calls (imported_funcs m) 0 2

@@ -7,10 +7,10 @@ use Rattle.base.specs.declared.outcomes.Outcome.{Outcome}
 use Rattle.trace_model.specs.declared.tapes.Effect.{Effect}
 use Rattle.history_spec.specs.declared.entries.Entry.{Entry}
 use Rattle.history_spec.specs.Configuration.{Frame, Activation}
-use Rattle.history_spec.specs.Instruction.{execute}
 use Rattle.history_spec.specs.Step.{Progress, Running, Finished, StepResult, step_result, step}
 use Rattle.history_spec.specs.Run.{all_one, steps}
 use Rattle.history_spec.specs.Projection.{Original, Layout, side, shown_entries, shown_outcome}
+use Rattle.record_replay_spec.specs.ObservedStepLaws.{observed}
 use Rattle.replay_run_spec.specs.Inside.{inside_after, args_after, inside_after_all, args_after_all}
 use Rattle.replay_run_spec.specs.Items.{Item, Makes, Changes, Steps, activation_items, changes_of, entries_in, is_block, outside_items, shown_items, steps_items}
 use Rattle.replay_run_spec.specs.Laws.{ItemsHoldHistories, ProjectionsRunAlong}
@@ -54,14 +54,14 @@ module _ (along : ProjectionsRunAlong) (w : Watched) (start : Place) (frame : Fr
     (entries shown : List Entry) (next : Progress) (inside : List ℕ)
     (single : IsSingle w start frame below entries shown next inside) where
   abbrev changes : List Effect
-  changes = changes_of w.globals start.config.store frame.at.rest (execute w.program.code start.config.store frame)
+  changes = changes_of w.globals (observed start.config.store frame)
 
   items_are : (own : List Item)
-      → outside_items (side w.layout frame.func) w.globals w.program start.config.store frame ≡ own
+      → outside_items (side w.layout frame.func) w.globals start.config.store frame ≡ own
       → items_from w 1 start.config ≡ own ++ map Makes entries
   items_are own e =
       append-nil _
-      ∙ ap (λ stack. activation_items w.layout w.globals w.program start.config.store stack
+      ∙ ap (λ stack. activation_items w.layout w.globals start.config.store stack
       ++ map Makes (step w.program start.config).entries) single.stands
       ∙ ap (λ items. items ++ map Makes (step w.program start.config).entries) e
       ∙ ap (λ (r : StepResult). own ++ map Makes r.entries) single.makes
@@ -70,11 +70,11 @@ module _ (along : ProjectionsRunAlong) (w : Watched) (start : Place) (frame : Fr
       → items_from w 1 start.config ≡ Steps (is_block frame.at.rest) ∷ (map Changes changes ++ map Makes entries)
   items_outside outside =
       items_are (Steps (is_block frame.at.rest) ∷ map Changes changes)
-      (outside_is w.layout frame.func outside w.globals w.program start.config.store frame)
+      (outside_is w.layout frame.func outside w.globals start.config.store frame)
 
   items_inside : side w.layout frame.func ≡ Original → items_from w 1 start.config ≡ map Makes entries
   items_inside original =
-      items_are [] (ap (λ s. outside_items s w.globals w.program start.config.store frame) original)
+      items_are [] (ap (λ s. outside_items s w.globals start.config.store frame) original)
 
   shown_outside : (args : List Val)
       → shown_items w.layout start.inside args

@@ -29,7 +29,7 @@ use Rattle.record_replay_spec.specs.TapeRun.{memory_of_size, table_of_size, memo
 use Rattle.record_replay_spec.specs.StoreAnswers.{HasWholePages}
 use Rattle.record_replay_spec.specs.Changes.{CanChange, CanChangeAll, with_bytes, with_change, with_changes, with_pages}
 use Rattle.type_safety.specs.Stores.{global_types}
-use Rattle.replay_run_spec.specs.Items.{page_count}
+use Rattle.record_replay_spec.specs.Known.{pages_of}
 use Rattle.generated_code_laws.specs.EffectLaws.{AllGrowSizes, AreWritable, GrowsSize, IsWritable}
 use Rattle.generated_code_laws.proofs.WrittenItems.{written_length, bytes_placed}
 use Rattle.generated_code_laws.specs.Playable.{WritesBytes}
@@ -243,7 +243,7 @@ module _ (m : Module) where
 
 -- ---- effects that change each size that they give
 
-pages_beside : (o : Option Memory) → page_count (option_map memory_cut o) ≡ page_count o
+pages_beside : (o : Option Memory) → pages_of (option_map memory_cut o) ≡ pages_of o
 pages_beside None = refl
 pages_beside (Some memory) = refl
 

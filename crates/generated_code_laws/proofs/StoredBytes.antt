@@ -13,12 +13,12 @@ use Rattle.history_spec.specs.Store.{Store, Memory, with_bytes_at, with_items_at
 use Rattle.history_spec.specs.Configuration.{place, Label, Frame, point, at_point}
 use Rattle.history_spec.specs.Instruction.{Operands, Did, Goes, on, pop, takes, bits_at, store_result, execute}
 use Rattle.replay_module_spec.specs.Effects.{i32_const, Width, Eight, Four, Two, One, byte_count, store_type, store_opcode, store_code}
-use Rattle.replay_run_spec.specs.Items.{Item, Changes, Steps, store_target, target_of, change_at}
+use Rattle.record_replay_spec.specs.Observations.{Writes, plain_observations, store_observations, on as on_part}
+use Rattle.replay_run_spec.specs.Items.{Item, Changes, Steps, changes_of}
 use Rattle.generated_code_laws.specs.Leads.{Watched, IsOutside, Standing}
 use Rattle.generated_code_laws.specs.Bytes.{AreBytes}
 use Rattle.generated_code_laws.proofs.Bytes.{numbers_hold_bytes}
 use Rattle.generated_code_laws.proofs.Does.{Does, does_both, does_one, does_const}
-use Rattle.generated_code_laws.proofs.WrittenItems.{written_there}
 
 -- the memory with bytes written
 abbrev pub memory_with_bytes : Memory → (address : ℕ) → List ℕ → Memory
@@ -118,15 +118,21 @@ module _ (w : Watched) (s : Standing) (outside : IsOutside w.layout s.frame.func
         ∙ ap (store_result store frame next memory operands [])
         (written memory address (byte_count width) bytes long are within)
 
-    changed : change_at w.globals store stored (target_of operands (store_instruction width))
+    changed : changes_of w.globals
+        (plain_observations store (stored_value width bytes ∷ i32_value address ∷ []) (store_instruction width))
         ≡ Bytes address bytes ∷ []
     changed =
         let here : address + 0 ≡ address = omega arith in
-        ap (λ o. change_at w.globals store stored (store_target (address + 0) o)) (has_access width)
-        ∙ ap (λ n. Bytes n (take (byte_count width) (drop n (with_items_at memory.bytes address bytes))) ∷ []) here
+        let news = bytes_of (byte_count width) (number_of bytes) in
+        ap (λ o. changes_of w.globals (on_part o (λ (access : Access).
+        on_part store.memory
+        (store_observations (address + 0) access.width (bytes_of access.width (number_of bytes)))))) (has_access width)
+        ∙ ap (λ o. changes_of w.globals (on_part o (store_observations (address + 0) (byte_count width) news))) is
+        ∙ ap (λ n. changes_of w.globals (store_observations n (byte_count width) news memory)) here
+        ∙ ap (λ o. changes_of w.globals (on_part o (λ (all : List ℕ). Writes address news ∷ [])))
+        (written memory address (byte_count width) bytes long are within)
         ∙ ap (λ l. Bytes address l ∷ [])
-        (ap (λ n. take n (drop address (with_items_at memory.bytes address bytes))) (sym long)
-        ∙ written_there memory.bytes bytes address (omega (arith, within)))
+        (ap (λ n. bytes_of n (number_of bytes)) (sym long) ∙ numbers_hold_bytes bytes are)
 
     -- the code of a store writes the bytes
     pub stores_bytes : Does w s store stored [] [] (store_code width address (number_of bytes))

@@ -1,6 +1,8 @@
 -- The code that gives the table a size does so.
-use Rattle.std.proofs.Common.{◌≡◌, ℕ, ◌+◌, ◌-◌, ◌<◌, ◌≤◌, ◌^◌, List, [], ◌∷◌, ◌++◌, length, Some, None, false, refl, ap, ◌∙◌}
-use Rattle.std.specs.Prelude.{map}
+use Rattle.std.proofs.Common.{◌≡◌, ℕ, ◌+◌, ◌-◌, ◌<◌, ◌≤◌, ◌^◌, List, [], ◌∷◌, ◌++◌, length, Some, None, false, cond, nat_lt, refl, ap, ◌∙◌, arith}
+use Rattle.std.specs.Prelude.{map, unwrap_or}
+use Rattle.std.proofs.lemmas.Bool.Decides.{nat_tests}
+use Rattle.std.proofs.lemmas.List.{append-nil}
 use Rattle.base.specs.declared.opcodes.TheConstants.{I32_SUB}
 use Rattle.wasm_syntax.specs.declared.values.Val.{Val}
 use Rattle.wasm_syntax.specs.declared.instructions.Instr.TheVariants.{Drop, Numeric, RefNull, TableGrow, TableSize}
@@ -12,7 +14,8 @@ use Rattle.history_spec.specs.Store.{Store, Table, grown_table, with_table}
 use Rattle.history_spec.specs.Configuration.{place, Frame, point, at_point}
 use Rattle.history_spec.specs.Instruction.{on, gives, reference, table_grow_result}
 use Rattle.replay_module_spec.specs.Effects.{i32_const, effect_code}
-use Rattle.replay_run_spec.specs.Items.{Changes, Steps, TableSize as OfTable, change_at}
+use Rattle.record_replay_spec.specs.Observations.{ResizesTable, table_grow_observations, table_size_observations, on as on_part}
+use Rattle.replay_run_spec.specs.Items.{Changes, Steps, change_of, changes_of}
 use Rattle.generated_code_laws.specs.Leads.{Watched, IsOutside, Standing}
 use Rattle.generated_code_laws.proofs.Does.{Does, does_both, does_one}
 use Rattle.generated_code_laws.proofs.Lacking.{grows_by_lacking}
@@ -37,14 +40,16 @@ module _ (w : Watched) (s : Standing) (outside : IsOutside w.layout s.frame.func
       ap (λ o. on o (λ (table : Table). gives store
       (at_point s.frame (point (i32_value size ∷ empty ∷ []) labels (Plain (TableSize 0) rest) number))
       (place rest (number + 1)) [] (i32_value size ∷ empty ∷ []) (i32_value (length table.entries) ∷ []))) is)
-      refl
+      (let same : nat_lt (length table.entries) (length table.entries) ≡ false = grind (arith, nat_tests) in
+      ap (λ o. changes_of w.globals (on_part o table_size_observations)) is
+      ∙ ap (λ b. cond b (GrowTable (length table.entries) ∷ []) [] ++ []) same)
 
   module _ (larger : Table) (grown : grown_table table (size - length table.entries) None ≡ Some larger) where
     abbrev after : Store
     after = with_table store larger
 
-    abbrev size_change : List Effect
-    size_change = change_at w.globals store after (Some OfTable)
+    abbrev pub size_change : List Effect
+    size_change = change_of w.globals (ResizesTable (length table.entries) (length larger.entries) None)
 
     grows : Does w s store after (lacking ∷ empty ∷ []) (there ∷ []) (TableGrow 0 ∷ [])
         (Steps false ∷ map Changes size_change)
@@ -57,7 +62,10 @@ module _ (w : Watched) (s : Standing) (outside : IsOutside w.layout s.frame.func
         ap (λ o. on o (λ here. table_grow_result store frame (place rest (number + 1)) here operands []
         (grown_table here (size - length table.entries) None))) is
         ∙ ap (table_grow_result store frame (place rest (number + 1)) table operands []) grown)
-        refl
+        (ap (λ o. changes_of w.globals (on_part o (table_grow_observations (size - length table.entries) None))) is
+        ∙ ap (λ o. changes_of w.globals
+        (ResizesTable (length table.entries) (length (unwrap_or o table).entries) None ∷ [])) grown
+        ∙ append-nil size_change)
 
     refers : Does w s store store [] (empty ∷ []) (RefNull ∷ []) (Steps false ∷ [])
     refers =

@@ -29,15 +29,6 @@ module _ {X : Type 0} where
   drop_over (x ∷ xs) (suc first) second zero e = absurd (omega (arith, e))
   drop_over (x ∷ xs) (suc first) second (suc all) e = drop_over xs first second all (omega (arith, e))
 
-  -- the written items are at their place
-  pub written_there : (items news : List X) (at : ℕ) → at ≤ length items
-      → take (length news) (drop at (with_items_at items at news)) ≡ news
-  written_there items news at within =
-      let front : at ≡ length (take at items) = sym (length-take-le at items within) in
-      let rest = drop (at + length news) items in
-      ap (take (length news)) (drop_front (take at items) (news ++ rest) at front)
-      ∙ take_front news rest (length news) refl
-
   pub written_length : (items news : List X) (at : ℕ) → at + length news ≤ length items
       → length (with_items_at items at news) ≡ length items
   written_length items news at within =

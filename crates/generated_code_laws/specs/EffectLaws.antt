@@ -8,10 +8,12 @@ use Rattle.trace_model.specs.declared.tapes.Effect.TheVariants.{Grow, Table, Byt
 use Rattle.trace_model.specs.Weight.{effect_weight}
 use Rattle.history_spec.specs.Store.{Store}
 use Rattle.history_spec.specs.Configuration.{Label}
+use Rattle.history_spec.specs.Instantiation.{table_length}
+use Rattle.record_replay_spec.specs.Known.{pages_of}
 use Rattle.record_replay_spec.specs.TapeRun.{store_after_effect, store_after_effects}
 use Rattle.replay_module_spec.specs.Dispatch.{sequence}
 use Rattle.replay_module_spec.specs.Segments.{effects_code}
-use Rattle.replay_run_spec.specs.Items.{Item, page_count, entry_count, entries_in}
+use Rattle.replay_run_spec.specs.Items.{Item, entries_in}
 use Rattle.replay_run_spec.specs.Stretches.{AreSameChanges}
 use Rattle.generated_code_laws.specs.Leads.{Watched, Leads, IsOutside, Standing, standing}
 use Rattle.generated_code_laws.specs.Bytes.{AreBytes}
@@ -36,8 +38,8 @@ AreWritable globals store (effect ∷ effects) =
 
 -- an effect that gives a size gives a greater one than the present size
 abbrev pub GrowsSize : Store → Effect → Type 0
-GrowsSize store (Grow pages) = page_count store.memory < pages
-GrowsSize store (Table size) = entry_count store.table < size
+GrowsSize store (Grow pages) = pages_of store.memory < pages
+GrowsSize store (Table size) = table_length store.table < size
 GrowsSize store effect = Unit {0}
 
 -- each effect of a list that gives a size gives a greater one

@@ -3,9 +3,9 @@ use Rattle.std.specs.Prelude.{◌≡◌, ℕ, List, ◌∷◌, ◌++◌, map}
 use Rattle.wasm_syntax.specs.declared.values.Val.{Val}
 use Rattle.history_spec.specs.declared.entries.Entry.{Entry}
 use Rattle.history_spec.specs.Configuration.{Frame, Activation, InModule}
-use Rattle.history_spec.specs.Instruction.{execute}
 use Rattle.history_spec.specs.Step.{Progress, step_result, step}
 use Rattle.history_spec.specs.Projection.{shown_entries}
+use Rattle.record_replay_spec.specs.ObservedStepLaws.{observed}
 use Rattle.replay_run_spec.specs.Inside.{inside_after_all}
 use Rattle.replay_run_spec.specs.Items.{Item, Makes, Changes, Steps, is_block, changes_of}
 use Rattle.generated_code_laws.specs.Leads.{Watched, Place}
@@ -23,5 +23,4 @@ pub record IsSingle (w : Watched) (start : Place) (frame : Frame) (below : List 
 abbrev pub outside_step : (w : Watched) → Place → Frame → List Entry → List Item
 outside_step w start frame shown =
     Steps (is_block frame.at.rest)
-    ∷ (map Changes (changes_of w.globals start.config.store frame.at.rest
-    (execute w.program.code start.config.store frame)) ++ map Makes shown)
+    ∷ (map Changes (changes_of w.globals (observed start.config.store frame)) ++ map Makes shown)

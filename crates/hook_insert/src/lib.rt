@@ -12,7 +12,7 @@ mod insertions;
 mod locals;
 mod modules;
 mod pieces;
-mod renumbering;
+mod renumbered_parts;
 mod sites;
 
 pub use base::NoMemory;

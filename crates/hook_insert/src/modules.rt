@@ -12,7 +12,7 @@ ghost use Rattle.hook_insert.specs.Modules.{HasLowNumbers, module_of_parts};
 
 use crate::functions::{Functions, instrumented_funcs};
 use crate::hook_imports::{hooked_imports, hooked_types, name};
-use crate::renumbering::{renumbered_elems, renumbered_exports};
+use crate::renumbered_parts::{renumbered_elems, renumbered_exports};
 use base::NoMemory;
 use hook_names::renumber;
 use instrumented_module_laws::instrumented_are_valid;

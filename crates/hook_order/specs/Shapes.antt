@@ -1,5 +1,5 @@
 -- What the order of hook calls needs of a module in the hooked form, in the parts that a shape holds.
-use Rattle.std.specs.Prelude.{ℕ, ◌+◌, ◌<◌, ◌^◌, List, length, Bool, slice_get, option_and_then}
+use Rattle.std.specs.Prelude.{ℕ, ◌+◌, ◌<◌, ◌≤◌, ◌^◌, List, length, Bool, slice_get, option_and_then}
 use Rattle.wasm_syntax.specs.declared.signatures.FuncType.{FuncType}
 use Rattle.wasm_syntax.specs.declared.signatures.GlobalType.{GlobalType}
 use Rattle.wasm_syntax.specs.declared.modules.Module.{Module}
@@ -43,4 +43,4 @@ shape_from parts =
 -- every function, with the hooks among them, and every global has an index of 32 bits
 pub record HaveIndices (imports defined : ℕ) (globals : List GlobalType) : Type 0 where
   pub func : imports + defined + hook_count < 2 ^ 32
-  pub global : length globals < 2 ^ 32
+  pub global : length globals ≤ 2 ^ 32

@@ -1,7 +1,8 @@
 // What the order of hook calls needs of a module.
 
-ghost use Rattle.std.specs.Prelude.{◌≡◌, ◌<◌, ◌^◌, IsTrue, IsSome, IfOk, slice_get};
+ghost use Rattle.std.specs.Prelude.{◌≡◌, ◌<◌, ◌^◌, IsTrue, IsSome, IfOk, length, slice_get};
 ghost use Rattle.std.specs.Option.{option_copied};
+ghost use Rattle.wasm_syntax.specs.Index.{all_globals};
 ghost use Rattle.record_replay_spec.specs.Hooks.{renumber};
 ghost use Rattle.record_replay_spec.specs.Order.{is_defined, is_function};
 ghost use Rattle.hook_order.specs.Shapes.{HaveIndices, parts_of, shape_from};
@@ -42,36 +43,18 @@ impl Model for Shape {
     ghost invariant = { λ shape. HaveIndices shape.imports shape.defined shape.globals.items };
 }
 
-/// The number of functions that a module defines, if each of its functions, each hook and each global has an
-/// index.
-///
-/// # Errors
-/// `NoMemory` if there are more than memory can hold.
-fn defined_funcs(funcs: usize, imports: u32, globals: &[GlobalType]) -> Result<u32, NoMemory>
-    ensures count { IfOk result (λ count. count ≡ funcs) }
-    ensures indices { IfOk result (λ count. HaveIndices imports count globals.now) }
-{
-    let most = u64::from(u32::MAX);
-    if globals.len() as u64 > most || u64::from(imports) + u64::from(HOOK_COUNT) > most {
-        return Err(NoMemory);
-    }
-    if funcs as u64 > most - u64::from(HOOK_COUNT) - u64::from(imports) {
-        return Err(NoMemory);
-    }
-    Ok(funcs as u32)
-}
-
 impl Shape {
-    /// The shape of a module in the hooked form, whose original imports `imports` functions.
+    /// The shape of a module in the hooked form, whose original imports `imports` functions. Each function of the
+    /// module and each global has an index of 32 bits.
     ///
     /// # Errors
     /// `NoMemory` if an allocation failed.
     pub fn of(alloc: Global, module: &Module, imports: u32) -> Result<Shape, NoMemory>
+        requires { HaveIndices imports (length «module».now.funcs) (all_globals «module».now) }
         ensures { IfOk result (λ shape. shape ≡ parts_of imports «module».now) }
     {
         let scope = Scope::of(alloc, module)?;
-        let count = module.funcs.as_slice().len();
-        let defined = defined_funcs(count, imports, scope.globals())?;
+        let defined = module.funcs.as_slice().len() as u32;
         let types = module.types.clone()?;
         let funcs = Vec::from_slice(alloc, scope.funcs())?;
         let globals = Vec::from_slice(alloc, scope.globals())?;

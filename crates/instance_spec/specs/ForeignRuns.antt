@@ -17,7 +17,7 @@ use Rattle.instance_spec.specs.Instances.{Instance, World, moved_up}
 
 -- ---- functions and their numbers: the imports, then the declared functions, then those that the module defines
 
--- so many numbers, one after another
+-- a count of numbers, one after another
 abbrev pub count_from : (first count : ℕ) → List ℕ
 count_from first zero = []
 count_from first (suc count) = first ∷ count_from (first + 1) count

@@ -15,7 +15,7 @@ pub record Instance : Type 0 where
   pub funcs : ℕ → ℕ
   pub globals : ℕ → ℕ
 
--- a number moved up by so many, and no further than the greatest index
+-- a number moved up by an amount, and no further than the greatest index
 abbrev pub moved_up : (by x : ℕ) → ℕ
 moved_up by x = min (by + x) (2 ^ 32 - 1)
 

@@ -16,7 +16,7 @@ use Rattle.wasm_syntax.specs.ListsWithin.{ListsAreWithinEncoding}
 use Rattle.wasm_syntax.proofs.ItemLists.{items_some, list_least}
 use Rattle.wasm_syntax.proofs.SectionLists.{encoding_parts, part_is, vectors}
 use Rattle.instrumented_module_laws.specs.Laws.{EncodableHaveWords}
-use Rattle.instrumented_module_laws.specs.SizeLaws.{EncodedHaveWords}
+use Rattle.instrumented_module_laws.specs.SizeLaws.{EncodedHaveWords, GlobalsAreWithinEncoding}
 
 imported_most : {K : Type 0} (pick : ImportKind → Option K) (imports : List Import)
     → length (of_kind pick imports) ≤ length imports
@@ -51,3 +51,8 @@ encoded_have_words words lists encodable least bytes m encodes few =
     let globals = globals_most m in
     let shortest = least Core bytes m encodes in
     words m (encodable Core bytes m encodes) (omega (arith, funcs, few)) (omega (arith, globals, shortest, few))
+
+pub globals_within_encoding : NoneIsShorter → GlobalsAreWithinEncoding
+globals_within_encoding least bytes m encodes =
+    let globals = globals_most m in
+    let shortest = least Core bytes m encodes in omega (arith, globals, shortest)

@@ -7,7 +7,7 @@ use Rattle.wasm_syntax.specs.declared.forms.Form.TheVariants.{Core}
 use Rattle.wasm_syntax.specs.declared.modules.Module.{Module}
 use Rattle.wasm_syntax.specs.Encoding.Forms.{IsCoreModule}
 use Rattle.wasm_syntax.specs.Encoding.Modules.{Encodes}
-use Rattle.wasm_syntax.specs.Index.{imported_funcs}
+use Rattle.wasm_syntax.specs.Index.{all_globals, imported_funcs}
 use Rattle.wasm_syntax.specs.Profile.{IsAccepted}
 use Rattle.wasm_syntax.specs.ListsWithin.{HasListsWithin}
 use Rattle.history_spec.specs.Store.{Store}
@@ -24,6 +24,11 @@ abbrev pub EncodedHaveWords : Type 0
 EncodedHaveWords =
     (bytes : List ℕ) (m : Module) → Encodes Core bytes m → length bytes ≤ MAX_ORIGINAL_BYTES
     → IsCoreModule m × HasWords m
+
+-- a module has at most as many globals as there are bytes that encode it
+abbrev pub GlobalsAreWithinEncoding : Type 0
+GlobalsAreWithinEncoding =
+    (bytes : List ℕ) (m : Module) → Encodes Core bytes m → length (all_globals m) ≤ length bytes
 
 -- the instrumented module of an accepted one has short lists, if no list of the original has more than
 -- `MAX_ORIGINAL_BYTES` items

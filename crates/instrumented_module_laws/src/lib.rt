@@ -11,5 +11,6 @@ pub use laws::{
     instrumented_are_valid,
 };
 pub use size_laws::{
-    encoded_have_words, instrumented_are_short, instrumented_have_stores, instrumented_import_hooks,
+    encoded_have_words, globals_within_encoding, instrumented_are_short, instrumented_have_stores,
+    instrumented_import_hooks,
 };

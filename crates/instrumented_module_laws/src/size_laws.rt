@@ -1,6 +1,6 @@
 // The laws of sizes, each the contract of a function; the statements are in `specs/SizeLaws.antt`.
 
-ghost use Rattle.instrumented_module_laws.specs.SizeLaws.{EncodedHaveWords, InstrumentedAreShort, InstrumentedHaveStores, InstrumentedImportHooks};
+ghost use Rattle.instrumented_module_laws.specs.SizeLaws.{EncodedHaveWords, GlobalsAreWithinEncoding, InstrumentedAreShort, InstrumentedHaveStores, InstrumentedImportHooks};
 
 use crate::{encodable_have_words, instrumented_are_accepted};
 use record_replay_spec::{instrumented_are_hooked, instrumented_keep_indices};
@@ -13,6 +13,13 @@ pub fn encoded_have_words()
 {
     encodable_have_words();
     lists_of_encoding();
+    shortest_encoding();
+}
+
+/// A module has at most as many globals as there are bytes that encode it in the form Core.
+pub fn globals_within_encoding()
+    ensures { GlobalsAreWithinEncoding }
+{
     shortest_encoding();
 }
 

@@ -155,9 +155,6 @@ joined_each a b firsts one other jumps h k are =
 pub first_each : (firsts : Jumps) → JumpsOfEach 1 firsts firsts
 first_each firsts = record { each = λ pair space first. first }
 
-pub same_each : (firsts jumps : Jumps) → AreSame firsts jumps → JumpsOfEach 1 firsts jumps
-same_each firsts jumps same = record { each = λ pair space first. same_jumps pair space 1 firsts jumps same first }
-
 -- jumps joined with themselves, and with the first ones
 pub joined_thrice : (a : ℕ) (firsts one double : Jumps) (result : Result Jumps NoMemory) → JumpsOfEach a firsts one
     → AreJoined one one double → IfOk result (AreJoined double firsts)

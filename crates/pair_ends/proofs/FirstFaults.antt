@@ -40,12 +40,6 @@ ends_in_space pair ends are Tables = are.tables
 ends_in_space pair ends are Memories = are.memories
 ends_in_space pair ends are Globals = are.globals
 
--- the end of an import's chain
-pub end_found : (pair : ModulePair) (ends : PairEnds) → AreAllEnds pair ends → (kind : ImportKind) (side : Side) (x : ℕ)
-    → option_map chain_end (end_at (ends_on ends (kind_space kind)) side x) ≡ end_of pair (space_of kind) side x
-end_found pair ends are kind side x =
-    (ends_in_space pair ends are (kind_space kind)).are side x ∙ ap (λ sp. end_of pair sp side x) (space_is kind)
-
 -- ---- imports seen so far
 
 counted : (kind : ImportKind) (sp : IndexSpace) (seen : Seen)

@@ -20,18 +20,18 @@ abbrev pub chain_end : End → ChainEnd
 chain_end (Defined side index) = chain.Defined side index
 chain_end (HostImport side index) = chain.HostImport side index
 
--- the end of the chain that is there after a jump, if it is among so many indices more
+-- the end of the chain that is there after a jump, if it is among a number of further indices
 abbrev pub end_behind : ModulePair → Space → ℕ → Jump → Option ChainEnd
 end_behind pair space more (jump.Ends e) = Some (chain_end e)
 end_behind pair space more jump.Missing = None
 end_behind pair space more (jump.Goes side index) = end_after more pair space side index
 
--- jumps over so many imports each
+-- jumps over a number of imports each
 pub record JumpsAfter (count : ℕ) (pair : ModulePair) (space : Space) (jumps : Jumps) : Type 0 where
   pub after : (more : ℕ) (side : Side) (index : ℕ)
       → end_behind pair space more (jump_at jumps side index) ≡ end_after (count + more) pair space side index
 
--- jumps over so many imports each, if the first ones are over one
+-- jumps over a number of imports each, if the first ones are over one
 pub record JumpsOfEach (count : ℕ) (firsts jumps : Jumps) : Type 0 where
   pub each : (pair : ModulePair) (space : Space) → JumpsAfter 1 pair space firsts → JumpsAfter count pair space jumps
 

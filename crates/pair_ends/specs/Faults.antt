@@ -40,7 +40,7 @@ with_seen seen Tables = record seen { tables = seen.tables + 1 }
 with_seen seen Memories = record seen { memories = seen.memories + 1 }
 with_seen seen Globals = record seen { globals = seen.globals + 1 }
 
--- no more than so many in each space
+-- no more than a number in each space
 pub record AreWithin (most : ℕ) (seen : Seen) : Type 0 where
   pub funcs : seen.funcs ≤ most
   pub tables : seen.tables ≤ most

@@ -79,6 +79,6 @@ abbrev pub number_if : Counts → Option End → ℕ
 number_if counts None = no_number
 number_if counts (Some e) = number_by counts e
 
--- the numbers of the ends of chains from so many indices fit into 32 bits
+-- the numbers of the ends of chains from the first indices fit into 32 bits
 pub record AreFew (counts : Counts) (ends : Ends) (side : Side) (size : ℕ) : Type 0 where
   pub few : (index : ℕ) → index < size → IfSome (end_at ends side index) (λ e. number_by counts e < 2 ^ 32)

@@ -1,4 +1,4 @@
-// Where chains of imports are after so many imports.
+// Where chains of imports are after a number of imports.
 
 ghost use Rattle.std.specs.Prelude.{◌≡◌, IfOk, map};
 ghost use Rattle.pair_spec.specs.Pairs.{imports_in, module_of};
@@ -19,7 +19,7 @@ pub enum End {
     HostImport(Side, usize),
 }
 
-/// Where a chain is after so many imports: at its end, or at a further index. Or it has no end, since an export is
+/// Where a chain is after a number of imports: at its end, or at a further index. Or it has no end, since an export is
 /// missing.
 #[derive(Clone, Copy)]
 pub(crate) enum Jump {

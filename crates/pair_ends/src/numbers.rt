@@ -81,7 +81,7 @@ fn side_numbers(
     numbers_of_ends(alloc, ends, counts, side, imports + defined)
 }
 
-/// The numbers of the ends of chains from so many indices of a side.
+/// The numbers of the ends of chains from the first indices of a side.
 fn numbers_of_ends(
     alloc: Global,
     ends: &Ends,

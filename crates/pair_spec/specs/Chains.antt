@@ -30,7 +30,7 @@ end_by later pair space side index (Some i) =
     (option_and_then (later (other_side side)) (exported_index space (module_of pair (other_side side)) i.name))
     (Some (HostImport side index))
 
--- the end of the chain from an index, if it is among so many indices
+-- the end of the chain from an index, if it is among a number of indices
 abbrev pub end_after : ℕ → ModulePair → Space → Side → (index : ℕ) → Option ChainEnd
 end_after zero pair space side index = None
 end_after (suc k) pair space side index =

@@ -35,19 +35,6 @@ module _ (m : Module) (bytes : List ℕ) where
     accepted = λ other read. inl (ap Ok (one_value (decls_of_text m bytes) decls other is read));
   }
 
-  pub fault_answer : (found : DeclFault) → (found ≡ decl.Memory → ⊥) → Gives (Err found) (decls_of_text m bytes)
-      → IsExactValue AreRead (IsRefusedDecls m bytes) (Err (decl_fault found))
-  fault_answer found differs gives =
-      let first = gives differs in
-      record {
-        taken = tt;
-        cause = inr (record { found = found; named = refl; differs = differs; first = first });
-        refused = λ fault refusal.
-            let same = one_fault (decls_of_text m bytes) found refusal.found first refusal.first in
-            inl (ap Err (sym (refusal.named ∙ ap decl_fault same)));
-        accepted = λ decls read. absurd (not_both (decls_of_text m bytes) found decls first read);
-      }
-
   -- the same declarations, with their module
   abbrev with_module : Result (List Decl) Fault → Result DeclaredModule Fault
   with_module (Ok decls) = Ok (record { checked = m; decls = decls })

@@ -13,7 +13,7 @@ use Rattle.r3_make.specs.Printed.{IsReplayFor}
 use Rattle.r3_make.specs.Tapes.{NeedsHeavyTape}
 use Rattle.r3_core.specs.WorldRuns.{WorldRun, IsWorldUnlinked, HasWorldOutcome, HasNoWorldOutcome}
 
--- a module has each of these functions, changed in this way, behind so many others
+-- a module has each of these functions, changed in this way, behind a number of others
 abbrev pub KeepsChanged : (change : Func → Func) → List Func → (before : ℕ) → Module → Type 0
 KeepsChanged change funcs before m =
     (place : ℕ) (func : Func) → slice_get funcs place ≡ Some func

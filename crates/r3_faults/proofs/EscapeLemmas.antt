@@ -10,10 +10,6 @@ pub escaped-split : (text : List ℕ) (k : ℕ) → escaped (take k text) ++ esc
 escaped-split text k =
     sym (flat_map-append escaped_byte (take k text) (drop k text)) ∙ ap escaped (take-append-drop k text)
 
-escaped-plain : (byte : ℕ) → is_plain byte ≡ true → escaped (byte ∷ []) ≡ byte ∷ []
-escaped-plain byte plain =
-    ap (λ t. cond t (byte ∷ []) (92 ∷ hex_digit (byte / 16) ∷ hex_digit (byte % 16) ∷ []) ++ []) plain
-
 -- a first byte that is not plain
 pub escaped-first : (text : List ℕ) → 0 < length text → is_plain (get_or text 0 0) ≡ false
     → escaped (take 1 text) ≡ 92 ∷ hex_digit (get_or text 0 0 / 16) ∷ hex_digit (get_or text 0 0 % 16) ∷ []

@@ -1,7 +1,7 @@
 -- The recorded run of an instrumented module, with what it needs.
-use Rattle.std.proofs.Common.{◌≡◌, ℕ, Some, Ok, Err, Result, sym, ◌∙◌, ap}
+use Rattle.std.proofs.Common.{◌≡◌, ℕ, ◌≤◌, ◌^◌, length, Some, Ok, Err, Result, sym, ◌∙◌, ap, subst}
 use Rattle.wasm_syntax.specs.declared.modules.Module.{Module}
-use Rattle.wasm_syntax.specs.Index.{imported_funcs}
+use Rattle.wasm_syntax.specs.Index.{all_globals, imported_funcs}
 use Rattle.host_script.specs.declared.scripts.Script.{Script}
 use Rattle.host_script.specs.declared.scripts.LinkFault.{LinkFault}
 use Rattle.host_script.specs.declared.scripts.LinkFault.TheVariants.{Memory, Mismatch, Missing, Segment}
@@ -12,6 +12,7 @@ use Rattle.history_spec.specs.Store.{Store}
 use Rattle.type_safety.specs.Stores.{IsStore}
 use Rattle.wasm_flat.specs.Meters.{FitsMeter, Weighing}
 use Rattle.wasm_flat.specs.Sizes.{IsShort}
+use Rattle.record_replay_spec.specs.HookLaws.{InstrumentedKeepIndices}
 use Rattle.record_replay_spec.specs.Hooks.{renumbered_view}
 use Rattle.record_replay_spec.specs.Instrumented.{instrumented_weights}
 use Rattle.host_link.specs.Link.{link_result, with_supply}
@@ -66,6 +67,9 @@ module _ (run : OriginalRun) (is : IsOriginal run) where
   hooks_after law =
       let both = law run.m run.digest is.accepted in
       record { hooks = both.0; before = both.1 }
+
+  pub hooked_globals : InstrumentedKeepIndices → length (all_globals (instrumented_of run)) ≤ 2 ^ 32
+  hooked_globals law = subst (λ globals. length globals ≤ 2 ^ 32) (sym (law run.m run.digest).globals) is.words.globals
 
   pub meter_fits : InstrumentedMetersFit → FitsMeter (instrumented_of run) (Some (instrumented_weights run.m))
   meter_fits law = law run.m run.digest is.accepted.valid

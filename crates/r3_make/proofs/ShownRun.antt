@@ -3,6 +3,7 @@ use Rattle.std.proofs.Common.{◌≡◌, ℕ, ◌≤◌, List, sym, ◌∙◌, a
 use Rattle.base.proofs.Results.{same_ok}
 use Rattle.wasm_syntax.specs.declared.limits.TheConstants.{MAX_TAPE_WEIGHT}
 use Rattle.wasm_syntax.specs.declared.modules.Module.{Module}
+use Rattle.wasm_syntax.specs.Encoding.Forms.{IsCoreModule}
 use Rattle.host_script.specs.declared.scripts.Script.{Script}
 use Rattle.host_script.specs.declared.scripts.Supply.{Supply}
 use Rattle.host_script.specs.Fits.{Fits}
@@ -41,18 +42,19 @@ module _ (m : Module) (script : Script) (turns : ℕ) (supply : Supply) (store :
       (subst (λ history. IsShownByReplay m script supply store history needs.outcome found.0)
       (ap (λ (run : Run). run.history) same_run) found.1)
 
-  spare : NothingCanBeDropped → HasNothingToSpare m script store tape.segments needs.is_one.is_needed
-  spare law =
-      law m script supply store tape.segments runnable fits needs.linked.supplied needs.linked.begins
+  spare : IsCoreModule m → NothingCanBeDropped
+      → HasNothingToSpare m script store tape.segments needs.is_one.is_needed
+  spare core law =
+      law m script supply store tape.segments runnable core fits needs.linked.supplied needs.linked.begins
       needs.is_one.is_needed
 
   pub constant : NeededTapesAreConstant → IsConstantTape tape
   constant law =
       law m script supply store tape runnable fits needs.linked.supplied needs.linked.begins needs.is_one.is_needed
 
-  pub replay_for : RunsAreReplayed → NothingCanBeDropped → tape_weight tape ≤ MAX_TAPE_WEIGHT → (printed : List ℕ)
-      → IsReplayOf m supply store tape printed → IsReplayFor m script turns printed
-  replay_for replayed dropped light printed replay =
+  pub replay_for : IsCoreModule m → RunsAreReplayed → NothingCanBeDropped → tape_weight tape ≤ MAX_TAPE_WEIGHT
+      → (printed : List ℕ) → IsReplayOf m supply store tape printed → IsReplayFor m script turns printed
+  replay_for core replayed dropped light printed replay =
       let is = shown replayed in
       record {
         supply = supply;
@@ -60,7 +62,7 @@ module _ (m : Module) (script : Script) (turns : ℕ) (supply : Supply) (store :
         tape = tape;
         needed = needs;
         light = light;
-        nothing_spare = spare dropped;
+        nothing_spare = spare core dropped;
         replay = replay;
         shows = is.shows light;
         makes = is.makes light;

@@ -1,6 +1,7 @@
 -- The file of the log of the run of a module in the hooked form under a script, or why there is none.
-use Rattle.std.specs.Prelude.{◌≡◌, ◌≢◌, ℕ, List, Some, None, Ok}
+use Rattle.std.specs.Prelude.{◌≡◌, ◌≢◌, ◌≤◌, ◌^◌, ℕ, List, length, Some, None, Ok}
 use Rattle.wasm_syntax.specs.declared.modules.Module.{Module}
+use Rattle.wasm_syntax.specs.Index.{all_globals}
 use Rattle.wasm_syntax.specs.Profile.{IsSupported}
 use Rattle.wasm_flat.specs.Sizes.{IsShort}
 use Rattle.host_script.specs.declared.scripts.Script.{Script}
@@ -31,6 +32,7 @@ pub record IsAccepted (m : Module) : Type 0 where
   pub supported : IsSupported m
   pub short : IsShort m
   pub bytes : HasBytes m
+  pub globals : length (all_globals m) ≤ 2 ^ 32
 
 -- assumptions on a module in the hooked form under a script
 pub record CanBeRecorded (m : Module) (form : HookedForm) (script : Script) : Type 0 where

@@ -21,8 +21,9 @@ use host_play::{Play, PlayFault, RunSettings};
 use host_script::Supply;
 use instrumented_module_laws::{
     instrumented_are_fitted, instrumented_are_instantiated, instrumented_are_runnable,
-    instrumented_have_stores, instrumented_import_hooks,
+    instrumented_are_short, instrumented_have_stores, instrumented_import_hooks,
 };
+use record_replay_spec::instrumented_keep_indices;
 use recorder::{Frozen, Recorder};
 use std::alloc::Global;
 use trace_reduce::Reducer;
@@ -70,6 +71,9 @@ fn new_freezer(
     ensures { IfOk result (λ freezer. (run : OriginalRun) (turns : ℕ) → IsRecordable run inputs.now supply.now
         → IsNewFreezer (record_of run turns) number freezer) }
 {
+    instrumented_keep_indices();
+    instrumented_are_short();
+    instrumented_import_hooks();
     instrumented_are_instantiated();
     instrumented_have_stores();
     typed_store();

@@ -6,6 +6,7 @@ ghost use Rattle.wasm_syntax.specs.declared.limits.TheConstants.{MAX_INSTRUMENTE
 ghost use Rattle.r3_make.specs.LogFiles.{IsLogFile, IsLogRefusal};
 
 use crate::module_logs::log_file;
+use instrumented_module_laws::globals_within_encoding;
 use r3_faults::Fault;
 use r3_inputs::{ModuleFile, module_in};
 use std::alloc::Global;
@@ -25,6 +26,7 @@ pub fn log_run(alloc: Global, hooked: &[u8], script: &[u8], turns: u64) -> Resul
     requires { length hooked.now ≤ MAX_INSTRUMENTED_BYTES }
     ensures { IsExact (IsLogFile hooked.now script.now turns) (IsLogRefusal hooked.now script.now turns) result }
 {
+    globals_within_encoding();
     let checked = module_in(alloc, ModuleFile::Instrumented, hooked)?;
     log_file(alloc, &checked, script, turns)
 }

@@ -32,6 +32,7 @@ use instrumented_module_laws::{
     instrumented_have_stores, instrumented_import_hooks,
 };
 use module_index::scope::Scope;
+use record_replay_spec::instrumented_keep_indices;
 use run_recorder::record_into;
 use sha2::{Digest, Sha256};
 use std::alloc::Global;
@@ -180,6 +181,7 @@ fn record_play(
         → play.entry.store ≡ renumbered_view (imported_funcs run.m) run.store
         → IsRecordedInto (HasTakenFor inputs.now.imports MAX_TAPE_WEIGHT) (record_of run turns) result }
 {
+    instrumented_keep_indices();
     instrumented_are_runnable();
     instrumented_are_fitted();
     instrumented_are_instantiated();

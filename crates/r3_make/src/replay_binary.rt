@@ -17,6 +17,7 @@ use crate::tapes::needed_tape;
 use accepted_runs::supply_that_links;
 use history_spec::runs_have_one_result_at_most;
 use host_script::Script;
+use instrumented_module_laws::encoded_have_words;
 use r3_faults::Fault;
 use replay_theorem::{needed_tapes_are_constant, needed_tapes_are_playable, runs_are_replayed};
 use std::alloc::Global;
@@ -71,6 +72,7 @@ fn made_replay(
     ensures printed { IfOk result (λ printed. IsReplayFor checked script turns printed.items) }
 {
     typed_store();
+    encoded_have_words();
     needed_tapes_are_constant();
     nothing_can_be_dropped();
     runs_are_replayed();

@@ -9,7 +9,7 @@ use parts::BoxParts;
 use std::alloc::Global;
 use std::marker::Model;
 
-mod lending;
+mod loans;
 mod parts;
 
 /// The number of bytes of a page.

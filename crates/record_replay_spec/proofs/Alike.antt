@@ -1,9 +1,9 @@
--- The tests of values, origins and ends of the host's activities pass for equals alone.
-use Rattle.std.proofs.Common.{◌≡◌, List, [], ◌∷◌, Option, Some, None, Bool, true, nat_eq, refl, ap}
+-- The tests of values, origins and ends of the host's activities pass for equals alone; equal values pass.
+use Rattle.std.proofs.Common.{◌≡◌, ◌≢◌, List, [], ◌∷◌, Option, Some, None, Bool, true, false, nat_eq, refl, sym, ap, ◌∙◌}
 use Rattle.std.proofs.lemmas.Bool.{eqb-true}
-use Rattle.base.proofs.Booleans.{and_parts}
+use Rattle.base.proofs.Booleans.{and_parts, and_true, own_number}
 use Rattle.wasm_syntax.specs.declared.values.Val.{Val}
-use Rattle.wasm_syntax.specs.Alike.{same_type}
+use Rattle.wasm_syntax.specs.Alike.{type_byte, same_type}
 use Rattle.wasm_syntax.proofs.ValTypes.{type_same}
 use Rattle.trace_model.specs.declared.tapes.Origin.{Origin}
 use Rattle.trace_model.specs.declared.tapes.Origin.TheVariants.{Begin, Import, Back}
@@ -49,3 +49,32 @@ next_same (Return result) (Return other) h = ap Return (option_same same_value v
 next_same End End h = refl
 next_same Trap Trap h = refl
 next_same a b h = cc
+
+-- ---- equal values pass
+
+pub own_option : {X : Type 0} (same : X → X → Bool) → ((a : X) → same a a ≡ true) → (o : Option X)
+    → same_option same o o ≡ true
+own_option same own None = refl
+own_option same own (Some x) = own x
+
+pub own_value : (v : Val) → same_value v v ≡ true
+own_value v = and_true (same_type v.ty v.ty) (nat_eq v.bits v.bits) (own_number (type_byte v.ty)) (own_number v.bits)
+
+-- a test of items that passes for equals, and for no others, decides whether options are equal
+module _ {X : Type 0} (same : X → X → Bool) (sound : (x y : X) → same x y ≡ true → x ≡ y) (own : (x : X) → same x x ≡ true)
+    (a b : Option X) where
+  pub option_differs : a ≢ b → same_option same a b ≡ false
+  option_differs apart = by_test (same_option same a b) refl
+    where
+      by_test : (t : Bool) → same_option same a b ≡ t → t ≡ false
+      by_test true p = absurd (apart (option_same same sound a b p))
+      by_test false p = refl
+
+  pub option_agrees : (a ≢ b → ⊥) → same_option same a b ≡ true
+  option_agrees agree = by_test (same_option same a b) refl
+    where
+      by_test : (t : Bool) → same_option same a b ≡ t → t ≡ true
+      by_test true p = refl
+      by_test false p =
+          absurd (agree (λ e. let passes = ap (λ o. same_option same o b) e ∙ own_option same own b in
+          let both : true ≡ false = sym passes ∙ p in cc))

@@ -12,7 +12,7 @@ use Rattle.history_spec.specs.Store.{Store, pages, bytes_of}
 use Rattle.history_spec.specs.Instantiation.{table_length}
 use Rattle.history_spec.specs.Instruction.{bits_at}
 use Rattle.record_replay_spec.specs.Observations.{Observation, Reads, Copies, Reaches, Resizes, ReadsEntry, ReachesEntry, ReadsGlobal, WritesGlobal, load_observations, store_observations, copy_observations, size_observations, entry_observations}
-use Rattle.record_replay_spec.specs.Alike.{same_option}
+use Rattle.record_replay_spec.specs.Alike.{same_option, same_value}
 use Rattle.record_replay_spec.specs.Known.{Known, entry_of, pages_of, opening_known, known_after}
 use Rattle.record_replay_spec.specs.declared.hooks.Hook.{Hook}
 use Rattle.record_replay_spec.specs.declared.hooks.Hook.TheVariants.{Enter, Leave, Pre, Post, Ipre, Ipost, Load, Store as ToStore, Size, Grow, Gget, Gset, Copy, Fill}
@@ -97,11 +97,6 @@ unless false event = event ∷ []
 abbrev pub seen_events : LogState → List Event
 seen_events state = unless (nat_eq state.known.pages state.noticed) Seen
 
--- the value has the bits of the known one
-abbrev pub same_bits : Option Val → Val → Bool
-same_bits None value = false
-same_bits (Some known) value = nat_eq known.bits value.bits
-
 -- an observation sees the memory's size: it is of the size, or an access whose end is past the known size
 abbrev pub sees_size : (known : ℕ) → Observation → Bool
 sees_size known (Reaches end found) = cond (nat_le end (known * PAGE_SIZE)) false true
@@ -116,7 +111,8 @@ found_events n known (ReachesEntry index found) =
     cond (nat_lt index known.entries) [] (unless (nat_eq found known.entries) (Table found))
 found_events n known (ReadsEntry index func) =
     unless (same_option nat_eq (known.entry index) func) (Entry index (option_and_then (original n) func))
-found_events n known (ReadsGlobal global value) = unless (same_bits (known.global global) value) (Global global value)
+found_events n known (ReadsGlobal global value) =
+    unless (same_option same_value (known.global global) (Some value)) (Global global value)
 found_events n known o = []
 
 -- the events of an observation

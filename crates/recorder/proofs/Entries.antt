@@ -2,9 +2,11 @@
 use Rattle.std.proofs.Common.{◌≡◌, ◌≢◌, ℕ, zero, suc, ◌-◌, ◌<◌, ◌≤◌, List, [], ◌∷◌, ◌++◌, length, map, Option, Some, None, Bool, true, false, cond, nat_eq, nat_lt, replicate, slice_get, slice_index_or, slice_set, option_map, option_and_then, refl, sym, ap, ◌∙◌, subst, arith}
 use Rattle.std.specs.Prelude.{unwrap_or}
 use Rattle.std.specs.Option.{option_or}
+use Rattle.std.proofs.lemmas.Bool.{eqb-true}
 use Rattle.std.proofs.lemmas.Bool.Decides.{nat_tests}
 use Rattle.std.proofs.lemmas.List.{append-nil, length-append, length-replicate, length-set, get_or-set_same, get_or-set_other}
 use Rattle.std.proofs.lemmas.Option.{slice_get-get_or, slice_get_within}
+use Rattle.base.proofs.Booleans.{own_number}
 use Rattle.base.proofs.Options.{or_none}
 use Rattle.wasm_syntax.specs.declared.values.Val.{Val}
 use Rattle.trace_model.specs.declared.events.Event.{Event}
@@ -13,8 +15,9 @@ use Rattle.trace_model.specs.Sink.{TookAlso}
 use Rattle.trace_model.proofs.SinkLemmas.{took_none, took_same}
 use Rattle.record_replay_spec.specs.Observations.{ReachesEntry, ReadsEntry, ReadsGlobal, WritesGlobal}
 use Rattle.record_replay_spec.specs.Hooks.{original}
-use Rattle.record_replay_spec.specs.Alike.{same_option}
-use Rattle.record_replay_spec.specs.Logs.{LogState, unless, same_bits, all_observed_events}
+use Rattle.record_replay_spec.specs.Alike.{same_option, same_value}
+use Rattle.record_replay_spec.proofs.Alike.{option_same, value_same, own_value, option_differs, option_agrees}
+use Rattle.record_replay_spec.specs.Logs.{LogState, unless, all_observed_events}
 use Rattle.shadow_tables.specs.Tables.{Tables}
 use Rattle.recorder.specs.Known.{ReportsTables}
 use Rattle.recorder.proofs.Kit.{with_entries, with_globals}
@@ -71,17 +74,6 @@ module _ {S : Type 0} (has_taken : S → S → List Event → Type 0) (n : ℕ) 
 pub true_false : true ≡ false → ⊥
 true_false e = cc
 
--- two entries are equal if and only if the test says so
-same_is : (a b : Option ℕ) → same_option nat_eq a b ≡ true → a ≡ b
-same_is None None h = refl
-same_is None (Some b) h = cc
-same_is (Some a) None h = cc
-same_is (Some a) (Some b) h = let e : a ≡ b = grind (arith, nat_tests, h) in ap Some e
-
-same_self : (a : Option ℕ) → same_option nat_eq a a ≡ true
-same_self None = refl
-same_self (Some a) = grind (arith, nat_tests)
-
 module _ (entries : List (Option ℕ)) (index : ℕ) (func : Option ℕ) (below : index < length entries) where
   abbrev known : Option ℕ
   known = slice_index_or entries index None
@@ -90,24 +82,13 @@ module _ (entries : List (Option ℕ)) (index : ℕ) (func : Option ℕ) (below 
   there = slice_get-get_or entries index None below
 
   differs_test : slice_get entries index ≢ Some func → same_option nat_eq known func ≡ false
-  differs_test apart = go (same_option nat_eq known func) refl
-    where
-      go : (b : Bool) → same_option nat_eq known func ≡ b → b ≡ false
-      go true p = absurd (apart (there ∙ ap Some (same_is known func p)))
-      go false p = refl
+  differs_test apart = option_differs nat_eq eqb-true own_number known func (λ e. apart (there ∙ ap Some e))
 
   same_test : (slice_get entries index ≢ Some func → ⊥) → same_option nat_eq known func ≡ true
-  same_test same = go (same_option nat_eq known func) refl
+  same_test same = option_agrees nat_eq eqb-true own_number known func (λ apart. same (λ e. apart (inner (sym there ∙ e))))
     where
-      go : (b : Bool) → same_option nat_eq known func ≡ b → b ≡ true
-      go true p = refl
-      go false p = absurd (same (λ e. true_false (sym (one e) ∙ p)))
-        where
-          inner : Some known ≡ Some func → known ≡ func
-          inner e = cc
-
-          one : slice_get entries index ≡ Some func → same_option nat_eq known func ≡ true
-          one e = subst (λ f. same_option nat_eq known f ≡ true) (inner (sym there ∙ e)) (same_self known)
+      inner : Some known ≡ Some func → known ≡ func
+      inner e = cc
 
 module _ {S : Type 0} (has_taken : S → S → List Event → Type 0) (n : ℕ) (tables : Tables) (index : ℕ) (func : Option ℕ)
     (below : index < length tables.entries) where
@@ -150,7 +131,7 @@ module _ {S : Type 0} (has_taken : S → S → List Event → Type 0) (n : ℕ) 
       let p : same_option nat_eq (state.known.entry index) func ≡ true =
       ap (λ known. same_option nat_eq known func) (shows.entry index) ∙ q in (
         with_entries shows _ _ tables.entries
-            (λ at. entry (same_is (slice_index_or tables.entries index None) func q) at (nat_eq index at) refl) shows.entries,
+            (λ at. entry (option_same nat_eq eqb-true (slice_index_or tables.entries index None) func q) at (nat_eq index at) refl) shows.entries,
         took_same has_taken sink sink _ (all_observed_events n state (ReadsEntry index func ∷ []))
             (sym (events_by state true p)) (took_none has_taken sink),
       )
@@ -165,52 +146,9 @@ module _ {S : Type 0} (has_taken : S → S → List Event → Type 0) (n : ℕ) 
 
 -- ---- globals
 
--- a value of the same type differs if and only if its bits differ
+-- a global of a known type
 module _ (globals : List Val) (global : ℕ) (value : Val)
     (typed : option_map (λ known. known.ty) (slice_get globals global) ≡ Some value.ty) where
-  bits_differ : slice_get globals global ≢ Some value → same_bits (slice_get globals global) value ≡ false
-  bits_differ apart = go (slice_get globals global) typed apart
-    where
-      go : (known : Option Val) → option_map (λ known. known.ty) known ≡ Some value.ty → known ≢ Some value
-          → same_bits known value ≡ false
-      go None is apart = refl
-      go (Some known) is apart = by_test (nat_eq known.bits value.bits) refl
-        where
-          by_test : (b : Bool) → nat_eq known.bits value.bits ≡ b → b ≡ false
-          by_test false p = refl
-          by_test true p =
-              let bits : known.bits ≡ value.bits = grind (arith, nat_tests, p) in
-              let ty : known.ty ≡ value.ty = cc in
-              absurd (apart (ap Some (ap (λ t. record { ty = t; bits = known.bits }) ty
-              ∙ ap (λ b. record { ty = value.ty; bits = b }) bits)))
-
-  bits_same : (slice_get globals global ≢ Some value → ⊥) → same_bits (slice_get globals global) value ≡ true
-  bits_same same = by_test (same_bits (slice_get globals global) value) refl
-    where
-      self : (known : Option Val) → known ≡ Some value → same_bits known value ≡ true
-      self None e = cc
-      self (Some known) e =
-          let bits : known.bits ≡ value.bits = ap (λ v. v.bits) (inner e) in grind (arith, nat_tests, bits)
-        where
-          inner : Some known ≡ Some value → known ≡ value
-          inner e = cc
-
-      by_test : (b : Bool) → same_bits (slice_get globals global) value ≡ b → b ≡ true
-      by_test true p = refl
-      by_test false p = absurd (same (λ e. true_false (sym (self (slice_get globals global) e) ∙ p)))
-
-  is_value : (slice_get globals global ≢ Some value → ⊥) → slice_get globals global ≡ Some value
-  is_value same = go (slice_get globals global) typed (bits_same same)
-    where
-      go : (known : Option Val) → option_map (λ known. known.ty) known ≡ Some value.ty
-          → same_bits known value ≡ true → known ≡ Some value
-      go None is h = cc
-      go (Some known) is h =
-          let bits : known.bits ≡ value.bits = grind (arith, nat_tests, h) in
-          let ty : known.ty ≡ value.ty = cc in
-          ap Some (ap (λ t. record { ty = t; bits = known.bits }) ty
-          ∙ ap (λ b. record { ty = value.ty; bits = b }) bits)
-
   pub is_below : global < length globals
   is_below = go (slice_get globals global) refl typed
     where
@@ -259,7 +197,7 @@ set_global globals index at value below false p old same =
 
 module _ {S : Type 0} (has_taken : S → S → List Event → Type 0) (n : ℕ) (tables : Tables) (global : ℕ) (value : Val)
     (typed : option_map (λ known. known.ty) (slice_get tables.globals global) ≡ Some value.ty) where
-  global_events : (state : LogState) → (b : Bool) → same_bits (state.known.global global) value ≡ b
+  global_events : (state : LogState) → (b : Bool) → same_option same_value (state.known.global global) (Some value) ≡ b
       → all_observed_events n state (ReadsGlobal global value ∷ []) ≡ unless b (Global global value) ++ []
   global_events state b p = ap (λ t. unless t (Global global value) ++ []) p
 
@@ -268,8 +206,9 @@ module _ {S : Type 0} (has_taken : S → S → List Event → Type 0) (n : ℕ) 
       → ReportsTables has_taken n tables sink (ReadsGlobal global value ∷ [])
       (record tables { globals = slice_set tables.globals global value }) sink'
   finds_global sink sink' apart reported memory state shows =
-      let p : same_bits (state.known.global global) value ≡ false =
-      ap (λ known. same_bits known value) (shows.global global) ∙ bits_differ tables.globals global value typed apart in (
+      let p : same_option same_value (state.known.global global) (Some value) ≡ false =
+      ap (λ known. same_option same_value known (Some value)) (shows.global global)
+      ∙ option_differs same_value value_same own_value (slice_get tables.globals global) (Some value) apart in (
         with_globals shows _ (slice_set tables.globals global value) (λ at.
             ap (λ o. unwrap_or o (state.known.global at)) (or_none (cond (nat_eq global at) (Some (Some value)) None))
             ∙ set_global tables.globals global at value (is_below tables.globals global value typed) (nat_eq global at)
@@ -281,10 +220,13 @@ module _ {S : Type 0} (has_taken : S → S → List Event → Type 0) (n : ℕ) 
   pub knows_global : (sink : S) → (slice_get tables.globals global ≢ Some value → ⊥)
       → ReportsTables has_taken n tables sink (ReadsGlobal global value ∷ []) tables sink
   knows_global sink same memory state shows =
-      let p : same_bits (state.known.global global) value ≡ true =
-      ap (λ known. same_bits known value) (shows.global global) ∙ bits_same tables.globals global value typed same in (
+      let agree : same_option same_value (slice_get tables.globals global) (Some value) ≡ true =
+      option_agrees same_value value_same own_value (slice_get tables.globals global) (Some value) same in
+      let p : same_option same_value (state.known.global global) (Some value) ≡ true =
+      ap (λ known. same_option same_value known (Some value)) (shows.global global) ∙ agree in (
         with_globals shows _ tables.globals (λ at.
-            known (is_value tables.globals global value typed same) at (nat_eq global at) refl),
+            known (option_same same_value value_same (slice_get tables.globals global) (Some value) agree) at
+            (nat_eq global at) refl),
         took_same has_taken sink sink _ (all_observed_events n state (ReadsGlobal global value ∷ []))
             (sym (global_events state true p)) (took_none has_taken sink),
       )

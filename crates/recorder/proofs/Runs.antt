@@ -14,7 +14,7 @@ use Rattle.hook_order.specs.Shapes.{shape_from}
 use Rattle.recorder.specs.Known.{Show}
 use Rattle.recorder.specs.Recordings.{order_after}
 use Rattle.recorder.specs.Recorders.{Recorded, after_freeze, IsAnswer, IsRecorderStep, StandsAt}
-use Rattle.recorder.specs.Laws.{IsNext, StepsAreRecorded, RunsAreRecorded, LogsAreRecorded}
+use Rattle.recorder.specs.Laws.{IsNext, StepsAreRecorded, CallsAreRecorded, LogsAreRecorded}
 use Rattle.recorder.proofs.Kit.{show_by}
 
 -- a recorder that is frozen stays where it is
@@ -143,8 +143,8 @@ steps_are_recorded has_taken before shape order log number stands =
       top = ap (λ o. o.frames) stands.ordered;
     }
 
-pub runs_are_recorded : {S : Type 0} (has_taken : S → S → List Event → Type 0) → RunsAreRecorded has_taken
-runs_are_recorded has_taken before shape order log number stands =
+pub calls_are_recorded : {S : Type 0} (has_taken : S → S → List Event → Type 0) → CallsAreRecorded has_taken
+calls_are_recorded has_taken before shape order log number stands =
     record {
       accepted = λ calls after run. accepted has_taken shape calls before order log number after stands run;
       refused = λ calls at after run. refused has_taken shape calls before order log number at after stands run;

@@ -64,8 +64,8 @@ pub record RunsRecord {S : Type 0} (has_taken : S → S → List Event → Type 
 
 -- from each state of a recorder, a run of calls that are all accepted gives its sink exactly the events of their log;
 -- if a call is refused as out of order, it is the first such call
-abbrev pub RunsAreRecorded : {S : Type 0} → (has_taken : S → S → List Event → Type 0) → Type 0
-RunsAreRecorded {S} has_taken =
+abbrev pub CallsAreRecorded : {S : Type 0} → (has_taken : S → S → List Event → Type 0) → Type 0
+CallsAreRecorded {S} has_taken =
     (before : Recorded S) (shape : HookedShape) (order : OrderState) (log : LogState) (number : ℕ)
     → StandsAt before shape order log number → RunsRecord has_taken before shape order log number
 

@@ -1,6 +1,6 @@
 // The laws of a recorder's runs.
 
-ghost use Rattle.recorder.specs.Laws.{LogsAreRecorded, RunsAreRecorded, StepsAreRecorded};
+ghost use Rattle.recorder.specs.Laws.{CallsAreRecorded, LogsAreRecorded, StepsAreRecorded};
 
 use trace_model::EventSink;
 
@@ -12,8 +12,8 @@ pub fn steps_are_recorded<S: EventSink>()
 
 /// From a recorder's state, a run of calls that are all accepted gives its sink exactly the events of their log;
 /// if a call is refused as out of order, it is the first such call.
-pub fn runs_are_recorded<S: EventSink>()
-    ensures { RunsAreRecorded S.has_taken }
+pub fn calls_are_recorded<S: EventSink>()
+    ensures { CallsAreRecorded S.has_taken }
 {}
 
 /// From a new recorder, whose sink has taken nothing, a run of calls that are all accepted gives its sink

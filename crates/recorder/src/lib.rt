@@ -13,5 +13,5 @@ mod tables;
 
 pub use base::NoMemory;
 pub use frozen::Frozen;
-pub use laws::{logs_are_recorded, runs_are_recorded, steps_are_recorded};
+pub use laws::{calls_are_recorded, logs_are_recorded, steps_are_recorded};
 pub use recorder::Recorder;

@@ -1,11 +1,13 @@
 // The recorder.
 
-ghost use Rattle.std.specs.Prelude.{◌≡◌, ◌↔◌, ◌+◌, [], true, Ok, IfOk, IfErr, IsOk, IsTrue, OnOk, OnErr, None};
+ghost use Rattle.std.specs.Prelude.{◌≡◌, ◌↔◌, ◌+◌, ◌^◌, ◌<◌, ◌≤◌, [], length, true, Ok, IfOk, IfErr, IsOk, IsTrue, OnOk, OnErr, None};
+ghost use Rattle.wasm_syntax.specs.Index.{all_globals};
 ghost use Rattle.hook_names.specs.declared.hooks.HookFault.TheVariants.{Memory};
 ghost use Rattle.history_spec.specs.Store.{Store};
 ghost use Rattle.history_spec.specs.Instantiation.{instantiate, table_length};
 ghost use Rattle.type_safety.specs.Stores.{func_count, global_types};
 ghost use Rattle.type_safety.specs.Values.{AreValues};
+ghost use Rattle.record_replay_spec.specs.Hooks.{hook_count};
 ghost use Rattle.record_replay_spec.specs.Order.{order_start, shape_of};
 ghost use Rattle.record_replay_spec.specs.Logs.{log_start};
 ghost use Rattle.recorder.specs.Recorders.{after_freeze, StandsAt};
@@ -51,7 +53,8 @@ impl<S> Model for Recorder<S> {
 
 impl<S: EventSink + Drop> Recorder<S> {
     /// A recorder before any call of a module in the hooked form, whose original imports `imports` functions.
-    /// The module links with the supply, and its globals are well typed then. The sink has taken no event.
+    /// Each function of the module and each global has an index of 32 bits. The module links with the supply, and its
+    /// globals are well typed then. The sink has taken no event.
     ///
     /// # Errors
     /// `NoMemory` if an allocation failed.
@@ -62,6 +65,8 @@ impl<S: EventSink + Drop> Recorder<S> {
         imports: u32,
         sink: S,
     ) -> Result<Recorder<S>, NoMemory>
+        requires funcs { imports + length checked.now.funcs + hook_count < 2 ^ 32 }
+        requires globals { length (all_globals checked.now) ≤ 2 ^ 32 }
         requires links { IsOk (instantiate checked.now supply.now) }
         requires typed { (store : Store) → instantiate checked.now supply.now ≡ Ok store
             → AreValues (func_count checked.now) (global_types checked.now) store.globals }
@@ -127,6 +132,8 @@ impl Recorder<Events> {
         supply: &Supply,
         imports: u32,
     ) -> Result<Recorder<Events>, NoMemory>
+        requires funcs { imports + length checked.now.funcs + hook_count < 2 ^ 32 }
+        requires globals { length (all_globals checked.now) ≤ 2 ^ 32 }
         requires links { IsOk (instantiate checked.now supply.now) }
         requires typed { (store : Store) → instantiate checked.now supply.now ≡ Ok store
             → AreValues (func_count checked.now) (global_types checked.now) store.globals }

@@ -48,8 +48,8 @@ needed_spares : NothingCanBeDropped → (log : Log) (tape : Tape) → IsTapeOfRu
 needed_spares dropped log tape is run count outcome has =
     let needed = is run count outcome has in (
       needed,
-      dropped run.m run.script run.supply run.store tape.segments run.runnable run.fits run.supplied run.opens
-          needed.is_needed,
+      dropped run.m run.script run.supply run.store tape.segments run.runnable run.core run.fits run.supplied
+          run.opens needed.is_needed,
     )
 
 pub spares : {E : Type 0} → NothingCanBeDropped → (log : Log) (answer : Result Tape E) → IfOk answer (IsTapeOfRuns log)

@@ -6,10 +6,10 @@ use Rattle.trace_model.specs.declared.tapes.Effect.{Effect}
 use Rattle.history_spec.specs.declared.entries.Entry.{Entry}
 use Rattle.history_spec.specs.Store.{Store}
 use Rattle.history_spec.specs.Configuration.{Frame, Activation, InModule, InMain, InImport}
-use Rattle.history_spec.specs.Instruction.{execute}
 use Rattle.history_spec.specs.Step.{Program, Progress, Running, Finished, Faulted, Stuck, step}
 use Rattle.history_spec.specs.Run.{Meter, steps}
 use Rattle.history_spec.specs.Projection.{Layout, Side, Import, Original, Appended, side, shown_entries}
+use Rattle.record_replay_spec.specs.ObservedStepLaws.{observed}
 use Rattle.replay_run_spec.specs.Inside.{inside_after, inside_after_all, args_after}
 use Rattle.replay_run_spec.specs.Items.{Item, Makes, Changes, Steps, entries_in, changes_of, outside_items, activation_items, steps_items, shown_items}
 use Rattle.replay_run_spec.specs.Laws.{ItemsHoldHistories, ItemsShowProjections}
@@ -30,22 +30,19 @@ pub changes_silent : (changes : List Effect) (later : List Item)
 changes_silent [] later = refl
 changes_silent (change ∷ changes) later = changes_silent changes later
 
-outside : (s : Side) (globals : ℕ) (program : Program) (store : Store) (frame : Frame) (later : List Item)
-    → entries_in (outside_items s globals program store frame ++ later) ≡ entries_in later
-outside Original globals program store frame later = refl
-outside Import globals program store frame later =
-    changes_silent (changes_of globals store frame.at.rest (execute program.code store frame)) later
-outside Appended globals program store frame later =
-    changes_silent (changes_of globals store frame.at.rest (execute program.code store frame)) later
+outside : (s : Side) (globals : ℕ) (store : Store) (frame : Frame) (later : List Item)
+    → entries_in (outside_items s globals store frame ++ later) ≡ entries_in later
+outside Original globals store frame later = refl
+outside Import globals store frame later = changes_silent (changes_of globals (observed store frame)) later
+outside Appended globals store frame later = changes_silent (changes_of globals (observed store frame)) later
 
-activation : (layout : Layout) (globals : ℕ) (program : Program) (store : Store) (stack : List Activation)
-    (later : List Item)
-    → entries_in (activation_items layout globals program store stack ++ later) ≡ entries_in later
-activation layout globals program store [] later = refl
-activation layout globals program store (InModule frame ∷ below) later =
-    outside (side layout frame.func) globals program store frame later
-activation layout globals program store (InMain actions ∷ below) later = refl
-activation layout globals program store (InImport import args actions end ∷ below) later = refl
+activation : (layout : Layout) (globals : ℕ) (store : Store) (stack : List Activation) (later : List Item)
+    → entries_in (activation_items layout globals store stack ++ later) ≡ entries_in later
+activation layout globals store [] later = refl
+activation layout globals store (InModule frame ∷ below) later =
+    outside (side layout frame.func) globals store frame later
+activation layout globals store (InMain actions ∷ below) later = refl
+activation layout globals store (InImport import args actions end ∷ below) later = refl
 
 held : (layout : Layout) (globals : ℕ) (program : Program) (meter : Meter) (k : ℕ) (at : Progress)
     → entries_in (steps_items layout globals program k at) ≡ (steps program meter k at).history
@@ -53,9 +50,9 @@ held layout globals program meter zero at = refl
 held layout globals program meter (suc k) (Running config) =
     let entries = (step program config).entries in
     let later = steps_items layout globals program k (step program config).next in
-    let own = activation_items layout globals program config.store config.stack in
+    let own = activation_items layout globals config.store config.stack in
     ap entries_in (append_assoc own (map Makes entries) later)
-    ∙ activation layout globals program config.store config.stack (map Makes entries ++ later)
+    ∙ activation layout globals config.store config.stack (map Makes entries ++ later)
     ∙ made entries later
     ∙ ap (λ more. entries ++ more) (held layout globals program meter k (step program config).next)
 held layout globals program meter (suc k) (Finished outcome) = refl

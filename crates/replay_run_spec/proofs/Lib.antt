@@ -2,3 +2,5 @@ mod Projections
 pub mod Histories
 pub mod Joined
 mod Tested
+mod Traps
+pub mod CallCounts

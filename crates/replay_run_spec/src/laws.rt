@@ -1,6 +1,6 @@
 // Laws of the definitions, each the contract of a function with an empty body.
 
-ghost use Rattle.replay_run_spec.specs.Laws.{BoundsAreTested, EffectsAreTested, ItemsHoldHistories, ItemsShowProjections, JoinedChangesAreSame, ProjectionsRunAlong};
+ghost use Rattle.replay_run_spec.specs.Laws.{BoundsAreTested, EffectsAreTested, ItemsHoldHistories, ItemsShowProjections, JoinedChangesAreSame, ProjectionsRunAlong, TrapsChangeNothing};
 
 /// The projection of a history is that of its first part, followed by that of the rest.
 pub fn projections_run_along()
@@ -11,6 +11,11 @@ pub fn projections_run_along()
 pub fn items_show_projections()
     ensures held { ItemsHoldHistories }
     ensures shown { ItemsShowProjections }
+{}
+
+/// An instruction that traps changes nothing.
+pub fn traps_change_nothing()
+    ensures { TrapsChangeNothing }
 {}
 
 /// The plain tests decide whether stretches make exactly the effects of segments, and whether the steps of calls

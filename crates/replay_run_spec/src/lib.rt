@@ -4,4 +4,6 @@
 
 pub mod laws;
 
-pub use laws::{items_show_projections, plain_tests_hold, projections_run_along};
+pub use laws::{
+    items_show_projections, plain_tests_hold, projections_run_along, traps_change_nothing,
+};

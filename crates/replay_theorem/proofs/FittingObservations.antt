@@ -29,8 +29,8 @@ use Rattle.type_safety.specs.Values.{AreValues, count_of}
 use Rattle.type_safety.specs.Stores.{MayBeMemory, MayBeTable}
 use Rattle.record_replay_spec.specs.Hooks.{hook_count, on, original}
 use Rattle.record_replay_spec.specs.Order.{bits_fit, value_if_fits, value_reported}
-use Rattle.record_replay_spec.specs.Alike.{same_option}
-use Rattle.record_replay_spec.specs.Logs.{LogState, all_observed_events, differing_runs, found_events, log_after, observed_events, same_bits, seen_events, sees_size, unless, with_first_byte}
+use Rattle.record_replay_spec.specs.Alike.{same_option, same_value}
+use Rattle.record_replay_spec.specs.Logs.{LogState, all_observed_events, differing_runs, found_events, log_after, observed_events, seen_events, sees_size, unless, with_first_byte}
 
 -- ---- values
 
@@ -174,7 +174,7 @@ found_fit n state (ReachesEntry index found) small = by (nat_lt index state.know
     by false = unless_fits (nat_eq found state.known.entries) (events.Table found) (refl, small)
 found_fit n state (ResizesTable found left func) small = tt
 found_fit n state (ReadsGlobal global value) small =
-    unless_fits (same_bits (state.known.global global) value) (events.Global global value) small
+    unless_fits (same_option same_value (state.known.global global) (Some value)) (events.Global global value) small
 found_fit n state (WritesGlobal global value) small = tt
 
 seen_fit : (b : Bool) (state : LogState) → FitEvents VERSION_2 (cond b (seen_events state) [])

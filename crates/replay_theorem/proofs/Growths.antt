@@ -15,7 +15,6 @@ use Rattle.record_replay_spec.specs.Known.{Known, pages_of, last_some}
 use Rattle.record_replay_spec.specs.Windows.{found_pages, found_entries}
 use Rattle.record_replay_spec.specs.Needed.{needed, needed_pages, needed_entries, effect_pages, effect_entries, AreNeeded}
 use Rattle.record_replay_spec.specs.TapeRun.{memory_of_size, store_after_effect}
-use Rattle.replay_run_spec.specs.Items.{page_count, entry_count}
 use Rattle.generated_code_laws.specs.EffectLaws.{AllGrowSizes}
 use Rattle.tape_laws.proofs.Relation.{IsKnownOf, IsReadOf, Holds}
 use Rattle.tape_laws.proofs.Held.{whole_pages}
@@ -43,20 +42,20 @@ greater known found size low need =
     omega (arith, same, less)
 
 known_pages : (o : Option Memory) (known : ℕ) → IfSome o (λ m. length m.bytes ≡ known * PAGE_SIZE)
-    → page_count o ≤ known
+    → pages_of o ≤ known
 known_pages None known long = omega arith
 known_pages (Some m) known long = let same = whole_pages (length m.bytes) known long in omega (arith, same)
 
-known_entries : (o : Option Table) (known : ℕ) → IfSome o (λ t. length t.entries ≡ known) → entry_count o ≤ known
+known_entries : (o : Option Table) (known : ℕ) → IfSome o (λ t. length t.entries ≡ known) → table_length o ≤ known
 known_entries None known count = omega arith
 known_entries (Some t) known count = omega (arith, count)
 
 -- a growth of the memory leaves the table unchanged
 same_table : (store next : Store) (size : ℕ) → store_after_effect store (Grow size) ≡ Some next
-    → entry_count next.table ≡ entry_count store.table
+    → table_length next.table ≡ table_length store.table
 same_table store next size is =
     let m = map_some (with_memory store) (option_and_then (memory_of_size size) store.memory) next is in
-    ap (λ (s : Store). entry_count s.table) (sym m.2)
+    ap (λ (s : Store). table_length s.table) (sym m.2)
 
 module _ (known : Known) (window : List Observation) (store : Store) (sizes : HasSizes store)
     (k : IsKnownOf known store) (real : IsReadOf known window store) where
@@ -73,7 +72,7 @@ module _ (known : Known) (window : List Observation) (store : Store) (sizes : Ha
       (found_entries known.entries window) _ k.entries real.entries).0
 
   -- a growth of the table, and the effects after it
-  table_grows : (now : Store) (size : ℕ) (effects : List Effect) → entry_count now.table ≤ known.entries
+  table_grows : (now : Store) (size : ℕ) (effects : List Effect) → table_length now.table ≤ known.entries
       → are_ordered_after (GrowTable size) effects ≡ true
       → last_some effect_entries (GrowTable size ∷ effects) ≡ needed_entries known window
       → AllGrowSizes now (GrowTable size ∷ effects)
@@ -85,7 +84,7 @@ module _ (known : Known) (window : List Observation) (store : Store) (sizes : Ha
       )
 
   -- the effects after a growth of the memory
-  rest_grows : (now : Store) (size : ℕ) (effects : List Effect) → entry_count now.table ≤ known.entries
+  rest_grows : (now : Store) (size : ℕ) (effects : List Effect) → table_length now.table ≤ known.entries
       → are_ordered_after (Grow size) effects ≡ true
       → last_some effect_entries effects ≡ needed_entries known window → AllGrowSizes now effects
   rest_grows now size [] low order need = tt
@@ -103,7 +102,7 @@ module _ (known : Known) (window : List Observation) (store : Store) (sizes : Ha
       → AllGrowSizes other effects
   needed_grow other holds effects need = go effects need.ordered need.pages need.entries
     where
-      few : entry_count other.table ≤ known.entries
+      few : table_length other.table ≤ known.entries
       few = known_entries other.table known.entries holds.entries
 
       go : (effects : List Effect) → are_ordered effects ≡ true

@@ -23,7 +23,7 @@ use Rattle.rest_laws.proofs.Places.{opens, with_host, call_after, call_from, cal
 use Rattle.rest_laws.proofs.StoreItems.{of_store}
 use Rattle.rest_laws.proofs.Walks.{StepWalks, IsAfter, nested_after, rest_walked, call_walked, delivered, entered, instructed, acted_inside}
 
--- after some of so many steps only the host's own actions are on the stack, and this is the rest of the history; the
+-- after some of a number of steps only the host's own actions are on the stack, and this is the rest of the history; the
 -- search in the observations finds what is known after those steps, and the observations of the steps that are left
 pub record IsFound (program : Program) (number count : ℕ) (at : Progress) (rest : List Entry) : Type 0 where
   pub before : ℕ
@@ -50,7 +50,7 @@ pub record IsFoundAfter (program : Program) (number k : ℕ) (host : Bool) (open
       ≡ call_at number known s.next (observations program k s.next)
 
 module _ (program : Program) where
-  -- from each configuration with so many steps left
+  -- from each configuration with a number of steps left
   abbrev pub Finds : ℕ → List Entry → Type 0
   Finds k rest =
       (number : ℕ) (config : Config) → AreNested config.stack

@@ -1,5 +1,5 @@
 -- What is known before a top-level call, by a search of all observations, is what is known one observation at a time.
-use Rattle.std.proofs.Common.{◌≡◌, ℕ, List, [], ◌∷◌, ◌++◌, Some, sym, subst}
+use Rattle.std.proofs.Common.{ℕ, List, [], ◌∷◌, ◌++◌, Some, sym, subst}
 use Rattle.record_replay_spec.specs.Observations.{Observation, Begins, Ends}
 use Rattle.record_replay_spec.specs.Known.{Known, known_from, known_after_all}
 use Rattle.record_replay_spec.specs.Laws.{KnownIsKept}
@@ -8,27 +8,17 @@ use Rattle.rest_spec.specs.AtCalls.{at_call}
 use Rattle.rest_laws.specs.Laws.{IsSameKnown, KnownBeforeIsKept}
 use Rattle.rest_laws.proofs.Ends.{both_by_end}
 use Rattle.tape_laws.proofs.KeptInRuns.{known_after_both}
+use Rattle.tape_laws.proofs.KnownAfterCalls.{known_by_search}
 
 module _ (kept : KnownIsKept) (opening : Known) where
-  found : (seen : List Observation) → known_from opening seen ≡ known_after_all opening seen
-  found seen =
-      let f = kept opening seen in
-      (λ i.
-      record {
-        byte = λ at. sym (f.byte at) i;
-        entry = λ at. sym (f.entry at) i;
-        global = λ at. sym (f.global at) i;
-        pages = sym f.pages i;
-        entries = sym f.entries i;
-      })
-
   same : (seen later : List Observation) (number opened : ℕ)
       → IsSameKnown (known_before number opened opening seen later)
       (at_call number opened (known_after_all opening seen) later)
   same seen [] number opened = tt
   same seen (Begins origin ∷ Ends next ∷ later) number opened =
       both_by_end IsSameKnown (Some (known_from opening seen))
-      (Some (record { known = known_after_all opening seen; later = Ends next ∷ later })) (found seen)
+      (Some (record { known = known_after_all opening seen; later = Ends next ∷ later }))
+      (sym (known_by_search kept opening seen))
       (open_after origin opened) number next (λ n o. known_before n o opening seen later)
       (λ n o. at_call n o (known_after_all opening seen) later) (λ n o. same seen later n o)
   same seen (Begins origin ∷ later) number opened = tt

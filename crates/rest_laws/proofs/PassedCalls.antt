@@ -10,41 +10,24 @@ use Rattle.history_spec.specs.Store.{Store}
 use Rattle.type_safety.specs.Stores.{func_count}
 use Rattle.record_replay_spec.specs.declared.hooks.Hook.TheVariants.{Enter, Leave}
 use Rattle.record_replay_spec.specs.Observations.{Observation}
-use Rattle.record_replay_spec.specs.Known.{pages_of, known_after_all}
+use Rattle.record_replay_spec.specs.Known.{known_after_all}
 use Rattle.record_replay_spec.specs.Hooks.{HookCall}
 use Rattle.record_replay_spec.specs.Order.{HookedShape, OrderState, may_enter, ordered_step}
-use Rattle.record_replay_spec.specs.Logs.{LogState, call_observations, notices_size, log_after, log_after_all, log_after_call}
+use Rattle.record_replay_spec.specs.Logs.{LogState, call_observations, log_after_call}
 use Rattle.record_replay_spec.specs.ReportedCalls.{reported_values, reported_number, reported_enter, reported_over}
 use Rattle.rest_spec.specs.TopEnters.{is_enter, none_open, enters_at_top, top_enters, by_enter, log_before}
 use Rattle.tape_laws.specs.ReportedObservations.{observations_of_calls}
 use Rattle.tape_laws.proofs.CallOrder as orders
 use Rattle.tape_laws.proofs.CallOrder.{IsHooked, renumbered, renumbered_both, state, AreOrdered}
 use Rattle.tape_laws.proofs.KeptInRuns.{known_after_both}
+use Rattle.tape_laws.proofs.KnownAfterCalls.{known_after_call}
 use Rattle.tape_laws.proofs.Trails.{Level, AtFunction, AtCall, order_frames, with_top_entered, IsTypedFor}
 
 -- the hook call does not report that a function is entered
 abbrev pub IsNoEnter : HookCall → Type 0
 IsNoEnter call = is_enter call.kind ≡ false
 
--- what the log knows after observations
-pub known_after_seen : (st : LogState) (seen : List Observation)
-    → (log_after_all st seen).known ≡ known_after_all st.known seen
-known_after_seen st [] = refl
-known_after_seen st (o ∷ seen) = known_after_seen (log_after st o) seen
-
 module _ (shape : HookedShape) where
-  -- what the log knows after a hook call
-  known_after_call : (st : LogState) (call : HookCall)
-      → (log_after_call shape st call).known ≡ known_after_all st.known (call_observations shape call)
-  known_after_call st call =
-      go (notices_size call.kind) (log_after_all st (call_observations shape call))
-      ∙ known_after_seen st (call_observations shape call)
-    where
-      go : (b : Bool) (now : LogState)
-          → (cond b (record now { noticed = pages_of call.view.memory }) now).known ≡ now.known
-      go true now = refl
-      go false now = refl
-
   -- a state of the log from which the search for a top-level call goes on after hook calls that observe this
   pub record LogAfter (order : OrderState) (st : LogState) (calls : List HookCall) (seen : List Observation)
       (after : OrderState) : Type 0 where
@@ -82,7 +65,7 @@ module _ (shape : HookedShape) where
         logs = λ st.
             record {
               log = log_after_call shape st call;
-              knows = known_after_call st call;
+              knows = known_after_call shape st call;
               same = λ number rest.
                   ap
                   (λ b. by_enter b number (Some st) (λ k. logged st k rest (ordered_step shape order call))) not_top

@@ -45,7 +45,7 @@ use Rattle.rest_laws.proofs.Cuts.{cuts_are_needed}
 use Rattle.rest_laws.proofs.Maxima.{reached_safely}
 use Rattle.rest_laws.proofs.Starts.{calls_are_of_runs}
 
--- so many steps are those up to a configuration, and those from there on
+-- a number of steps are those up to a configuration, and those from there on
 steps_from : (program : Program) (before later k : ℕ) (at : Progress) (config : Config) → k ≡ before + later
     → (steps program all_one before at).at ≡ Running config
     → (steps program all_one k at).at ≡ (steps program all_one later (Running config)).at

@@ -22,10 +22,11 @@ use Rattle.rest_spec.specs.AtCalls.{AtCall}
 use Rattle.rest_spec.specs.TopEnters.{enters_at_top, top_enters, by_enter, log_before}
 use Rattle.tape_laws.specs.Below.{LawsOfSteps, LawsOfRuns}
 use Rattle.tape_laws.specs.CallLaws.{OriginalRun, hooked_shape, calls_of_run}
-use Rattle.tape_laws.proofs.CallOrder.{same_length, same_entry, state}
+use Rattle.tape_laws.proofs.CallOrder.{same_length, state}
+use Rattle.tape_laws.proofs.KnownAfterCalls.{same_known}
 use Rattle.tape_laws.proofs.ObservedFinds.{IsReportedKnown}
 use Rattle.tape_laws.proofs.Ordered.{hooked_run, observed, moments_of, run_trail}
-use Rattle.tape_laws.proofs.WholeLogs.{first_log}
+use Rattle.tape_laws.proofs.WholeLogs.{first_log, opening_stands}
 use Rattle.rest_laws.specs.Laws.{IsThereBelow, IsSameKnown, KnownBeforeIsKept}
 use Rattle.rest_laws.specs.TopEnters.{LogsAreThere, TopCallsAreReported, renumbered_known, IsKnownToLog, LogsKnowWhatIsKnown, first_order}
 use Rattle.rest_laws.proofs.Places.{begun}
@@ -106,15 +107,7 @@ run_entries program store initial k =
 -- ---- runs
 
 renumbered_is : (n : ℕ) (known found : Known) → IsReportedKnown n known found → found ≡ renumbered_known n known
-renumbered_is n known found h =
-    (λ i.
-    record {
-      byte = λ at. h.byte at i;
-      entry = λ at. h.entry at i;
-      global = λ at. h.global at i;
-      pages = h.pages i;
-      entries = h.entries i;
-    })
+renumbered_is n known found h = same_known found (renumbered_known n known) h.byte h.entry h.global h.pages h.entries
 
 module _ (laws : LawsOfSteps) (runs : LawsOfRuns) (indices : InstrumentedKeepIndices)
     (renumbered : IndicesAreRenumbered) where
@@ -124,16 +117,7 @@ module _ (laws : LawsOfSteps) (runs : LawsOfRuns) (indices : InstrumentedKeepInd
   run_reports run count =
       reports run.m (hooked_shape run) (hooked_run indices renumbered run) _ (moments_of run count) []
       (opening_known run.store) run.store (observed run count) (first_log run) (run_trail laws runs indices run count)
-      (record {
-        reported = record {
-          byte = λ at. refl;
-          entry = λ at. same_entry (imported_funcs run.m) run.store.table at;
-          global = λ at. refl;
-          pages = refl;
-          entries = same_length (imported_funcs run.m) run.store.table;
-        };
-        immutable = λ at i. refl;
-      })
+      (record { reported = (opening_stands run).reported; immutable = (opening_stands run).immutable })
 
   -- the order begins with the size of the original's table
   order_is : (run : OriginalRun) → first_order run ≡ state [] [] (opening_known run.store).entries

@@ -38,7 +38,8 @@ use Rattle.tape_laws.proofs.ObservedFinds.{IsReportedKnown}
 use Rattle.tape_laws.proofs.Relation.{AreSeen}
 use Rattle.tape_laws.proofs.TrailOrder.{calls_at}
 use Rattle.tape_laws.proofs.Trails.{Level, AtFunction, AtCall, call_level, waiting_calls, at_host, IsOfCore, AreReportable, Leads, Stays, Direct, Indirect, ReportsTrap, Quiet, AtEntry, IsTrailEnd}
-use Rattle.rest_laws.proofs.PassedCalls.{IsNoEnter, known_after_seen, ArePassed, ordered_passed}
+use Rattle.tape_laws.proofs.KnownAfterCalls.{known_after_seen}
+use Rattle.rest_laws.proofs.PassedCalls.{IsNoEnter, ArePassed, ordered_passed}
 use Rattle.rest_laws.proofs.Places.{call_after, call_from, passed}
 use Rattle.rest_laws.proofs.TopEntries as entries
 use Rattle.rest_laws.proofs.TopEntries.{Knows, KnowsAt, ReportsAt, Rest, FirstReports}

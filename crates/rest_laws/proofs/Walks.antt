@@ -23,7 +23,7 @@ use Rattle.tape_laws.specs.RealReads.{AreNested}
 use Rattle.rest_spec.specs.Rests.{rest_of}
 use Rattle.rest_laws.proofs.Places.{opens, with_host, call_from, call_at, begun}
 
--- entries make no top-level call, and lead from where control is, with so many open calls of imports, to where a run
+-- entries make no top-level call, and lead from where control is, with a number of open calls of imports, to where a run
 -- goes on
 abbrev pub Walks : List Entry → (host : Bool) (opened : ℕ) → Progress → Type 0
 Walks [] host opened (Running config) =

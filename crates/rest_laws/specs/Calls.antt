@@ -14,7 +14,7 @@ use Rattle.rest_spec.specs.Rests.{rest_of}
 use Rattle.rest_spec.specs.AtCalls.{at_call}
 use Rattle.tape_laws.specs.RealReads.{observed_from}
 
--- A run of so many steps makes the top-level call of a number, from which on its history has this rest: at its start,
+-- A run of `count` steps makes the top-level call of a number, from which on its history has this rest: at its start,
 -- as the call of the start function; or after some steps, where only the host's own actions are on the stack.
 -- There the observations have what is known after those steps, and the observations of the steps that are left.
 pub data IsCallOfRun (program : Program) (initial : StepResult) (opening : Known) (count number : ℕ)

@@ -11,7 +11,7 @@ use Rattle.rest_spec.specs.KnownBefore.{open_after, by_end}
 abbrev pub as_first : Segment → Segment
 as_first segment = record segment { origin = Begin }
 
--- the segments from the one on that makes the top-level call of this number, if there is one, with so many calls of
+-- the segments from the one on that makes the top-level call of this number, if there is one, with `opened` calls of
 -- imports open before the segments
 abbrev pub cut_of : (number opened : ℕ) → List Segment → Option (List Segment)
 cut_of number opened [] = None
@@ -25,7 +25,7 @@ calls_by_end opened (Call func args) later = with_call opened (later opened)
 calls_by_end opened (Return result) later = later (without_one opened)
 calls_by_end opened next later = later opened
 
--- the number of top-level calls that segments make, with so many calls of imports open before them
+-- the number of top-level calls that segments make, with `opened` calls of imports open before them
 abbrev pub tape_calls : List Segment → (opened : ℕ) → ℕ
 tape_calls [] opened = 0
 tape_calls (segment ∷ later) opened =

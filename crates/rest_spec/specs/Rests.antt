@@ -9,14 +9,14 @@ abbrev pub without_one : ℕ → ℕ
 without_one zero = zero
 without_one (suc opened) = opened
 
--- at a call of the host, with so many open calls of imports: this is the call of the number that is looked for, or the
--- search goes on, for a number less by one if the call is top-level
+-- at a call of the host, where `opened` calls of imports are open: this is the call of the number that is looked for,
+-- or the search goes on, for a number less by one if the call is top-level
 abbrev pub by_call : {X : Type 0} → (opened number : ℕ) → (this : X) → (later : (number : ℕ) → X) → X
 by_call zero zero this later = this
 by_call zero (suc number) this later = later number
 by_call (suc opened) number this later = later number
 
--- the entries from the top-level call of this number on, if there is one, with so many calls of imports open before
+-- the entries from the top-level call of this number on, if there is one, with `opened` calls of imports open before
 -- the entries
 abbrev pub rest_of : List Entry → (number opened : ℕ) → Option (List Entry)
 rest_of [] number opened = None
@@ -31,7 +31,7 @@ abbrev pub with_call : (opened calls : ℕ) → ℕ
 with_call zero calls = suc calls
 with_call (suc opened) calls = calls
 
--- the number of top-level calls among entries, with so many calls of imports open before them
+-- the number of top-level calls among entries, with `opened` calls of imports open before them
 abbrev pub calls_in : List Entry → (opened : ℕ) → ℕ
 calls_in [] opened = 0
 calls_in (HostCall func args ∷ later) opened = with_call opened (calls_in later opened)

@@ -46,7 +46,7 @@ abbrev pub with_block : (address : ℕ) → List ℕ → List DataSeg → List D
 with_block address block later =
     with_segment (address + zeros_before block) (without_last_zeros (drop (zeros_before block) block)) later
 
--- the segments of so many blocks of a size, from an address on
+-- the segments of a number of blocks of a size, from an address on
 abbrev pub block_segments : (size count address : ℕ) → List ℕ → List DataSeg
 block_segments size zero address bytes = []
 block_segments size (suc count) address bytes =

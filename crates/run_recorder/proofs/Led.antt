@@ -11,7 +11,7 @@ use Rattle.host_play.specs.HookedResults.{IsPlayedWithHooks}
 use Rattle.host_play.specs.declared.results.PlayFault.{PlayFault}
 use Rattle.host_play.specs.declared.results.PlayFault.TheVariants as refusal
 use Rattle.recorder.specs.Recorders.{Recorded, IsRecorderStep, StandsAt}
-use Rattle.recorder.specs.Laws.{RunsAreRecorded}
+use Rattle.recorder.specs.Laws.{CallsAreRecorded}
 use Rattle.run_recorder.specs.Records.{RecordedRun, calls_in, IsLed, IsLog}
 
 -- no events, but a number
@@ -44,7 +44,7 @@ in_order shape order log at (call ∷ calls) reported is =
         (events_from shape next (log_after_call shape log call) (at + 1) calls) reported is in
         rest next later.0 later.1
 
-pub led : {S : Type 0} (has_taken : S → S → List Event → Type 0) → RunsAreRecorded has_taken → (first : S) (r : RecordedRun)
+pub led : {S : Type 0} (has_taken : S → S → List Event → Type 0) → CallsAreRecorded has_taken → (first : S) (r : RecordedRun)
     (before after : Recorded S) → StandsAt before r.shape (order_start (table_length r.opened.table)) (log_start r.opened) 0
     → has_taken first before.recording.sink [] → (answer : Result Outcome PlayFault)
     → IsPlayedWithHooks (IsRecorderStep has_taken) r.run answer before after → IsLed (has_taken first) r answer after

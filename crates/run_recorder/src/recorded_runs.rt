@@ -1,6 +1,7 @@
 // Recorded runs.
 
-ghost use Rattle.std.specs.Prelude.{◌≡◌, [], Ok};
+ghost use Rattle.std.specs.Prelude.{◌≡◌, ◌≤◌, ◌^◌, [], length, Ok};
+ghost use Rattle.wasm_syntax.specs.Index.{all_globals};
 ghost use Rattle.wasm_syntax.specs.Profile.{IsSupported};
 ghost use Rattle.host_script.specs.Fits.{Fits};
 ghost use Rattle.history_spec.specs.Instantiation.{instantiate};
@@ -15,13 +16,14 @@ ghost use Rattle.run_recorder.specs.Records.{IsLed, IsRecord, IsRecordedInto, Re
 use history_spec::Outcome;
 use host_play::{Play, PlayFault, RunSettings};
 use host_script::Supply;
-use recorder::{Recorder, runs_are_recorded};
+use recorder::{Recorder, calls_are_recorded};
 use std::alloc::Global;
 use trace_model::{EventSink, Events, Log};
 use wasm_validate::Checked;
 
 /// The run of a module in the hooked form, as the settings say. The sink has taken no event; it takes the events of the
-/// log of the run's hook calls. `play` is the module's instantiation with the supply.
+/// log of the run's hook calls. `play` is the module's instantiation with the supply. Each global of the module has an
+/// index of 32 bits.
 ///
 /// # Errors
 ///
@@ -39,6 +41,7 @@ pub fn record_into<S: EventSink + Drop>(
     requires code { play.code.now ≡ hooked.now }
     requires supported { IsSupported hooked.now }
     requires hooked { HasHooksAfter hooked.now settings.now.imports }
+    requires globals { length (all_globals hooked.now) ≤ 2 ^ 32 }
     requires meter { FitsMeter hooked.now settings.now.meter.now }
     requires fits { Fits hooked.now play.script.now }
     requires flat { play.flat ≡ flat_of hooked.now }
@@ -54,7 +57,7 @@ pub fn record_into<S: EventSink + Drop>(
           opened = play.entry.store;
         }) result }
 {
-    runs_are_recorded::<S>();
+    calls_are_recorded::<S>();
     let _valid = hooked.module();
     let mut recorder = Recorder::into_sink(alloc, hooked, supply, settings.imports, sink)?;
     let answer = host_play::play(alloc, play, settings, &mut recorder);
@@ -88,6 +91,7 @@ pub fn record_log(
     requires code { play.code.now ≡ hooked.now }
     requires supported { IsSupported hooked.now }
     requires hooked { HasHooksAfter hooked.now settings.now.imports }
+    requires globals { length (all_globals hooked.now) ≤ 2 ^ 32 }
     requires meter { FitsMeter hooked.now settings.now.meter.now }
     requires fits { Fits hooked.now play.script.now }
     requires flat { play.flat ≡ flat_of hooked.now }

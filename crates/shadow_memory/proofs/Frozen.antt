@@ -54,35 +54,6 @@ between_at low high (first ∷ places) zero id all is =
 between_at low high (first ∷ places) (suc place) id all is =
     between_at low high places place id (All-tail (IsBetween low high) first places all) is
 
--- copies of the pages of places can be frozen
-pub copies_frozen : (places copies : List (Option PageId)) (pages more_pages : List (List ℕ)) → AreKept places pages
-    → AreCopies places pages copies more_pages → AreFrozen places copies more_pages
-copies_frozen places copies pages more_pages kept are =
-    record {
-      there = λ place id is. (at place id is).1;
-      apart = λ place other id here copied. omega (arith, kept.there place id here, (at other id copied).0);
-    }
-  where
-    at : (place : ℕ) (id : PageId) → page_of copies place ≡ Some id
-        → IsBetween (length pages) (length more_pages) (Some id)
-    at place id is = between_at (length pages) (length more_pages) copies place id are.later is
-
--- frozen places stay so if there are more pages, and if other places have some of them
-pub still_frozen : (places frozen : List (Option PageId)) (pages : List (List ℕ)) (more_places : List (Option PageId))
-    (more_pages : List (List ℕ)) → AreFrozen places frozen pages → AreExtended places pages more_places more_pages
-    → AreFrozen more_places frozen more_pages
-still_frozen places frozen pages more_places more_pages are extended =
-    record {
-      there = λ place id is. omega (arith, are.there place id is, extended.more.count);
-      apart = λ place other id here there.
-          are.apart place other id (extended.earlier place id here (are.there other id there)) there;
-    }
-
-pub frozen_with_more : (places frozen : List (Option PageId)) (pages more_pages : List (List ℕ))
-    → AreFrozen places frozen pages → AreMore pages more_pages → AreFrozen places frozen more_pages
-frozen_with_more places frozen pages more_pages are more =
-    record { there = λ place id is. omega (arith, are.there place id is, more.count); apart = are.apart }
-
 -- what is kept, from its parts
 abbrev made : List ℕ → List Bool → List ℕ → Kept
 made bytes touched frozen = record { bytes = bytes; touched = touched; frozen = frozen }

@@ -1,7 +1,6 @@
 -- What the effects that are left of an activity, after some are removed, leave of a store.
-use Rattle.std.proofs.Common.{◌≡◌, ℕ, ◌*◌, ◌≤◌, List, [], length, Option, Some, None, Bool, true, false, cond, nat_eq, slice_get, refl, sym, ap, ◌∙◌, subst, arith, inl, inr}
+use Rattle.std.proofs.Common.{◌≡◌, ℕ, ◌*◌, ◌≤◌, List, [], length, Option, Some, None, Bool, true, cond, nat_eq, slice_get, refl, sym, ap, ◌∙◌, subst, arith, inl, inr}
 use Rattle.std.specs.Prelude.{◌⊎◌, IfSome, option_map, unwrap_or}
-use Rattle.std.specs.List.{list_any}
 use Rattle.std.proofs.lemmas.Bool.{eqb-true}
 use Rattle.base.proofs.Booleans.{own_number}
 use Rattle.wasm_syntax.specs.declared.limits.TheConstants.{PAGE_SIZE}
@@ -14,12 +13,11 @@ use Rattle.record_replay_spec.specs.Known.{Known, byte_of, entry_of, pages_of, l
 use Rattle.record_replay_spec.specs.Windows.{first_byte, first_entry, first_global, found_pages, found_entries}
 use Rattle.record_replay_spec.specs.Needed.{needed, effect_byte, effect_entry, effect_global, effect_pages, effect_entries, AreNeeded}
 use Rattle.record_replay_spec.proofs.OneList.{effects_same}
-use Rattle.record_replay_spec.proofs.Alike.{option_same, value_same}
+use Rattle.record_replay_spec.proofs.Alike.{option_same, value_same, own_option, own_value}
 use Rattle.record_replay_spec.specs.Unshown.{first_copied}
-use Rattle.tape_laws.specs.Dropped.{resizes_table, IsLeft, AreLeft}
+use Rattle.tape_laws.specs.Dropped.{IsLeft, AreLeft}
 use Rattle.tape_laws.proofs.Stores.{Maxima, maxima}
 use Rattle.tape_laws.proofs.Relation.{IsKnownOf, IsReadOf, Holds}
-use Rattle.tape_laws.proofs.Same.{own_option, own_value}
 use Rattle.tape_laws.proofs.Effects.{bytes_left, AreDone}
 use Rattle.tape_laws.proofs.Activities.{HasSizes, found_bytes, needed_else, size_between}
 use Rattle.tape_laws.proofs.DroppedPlaces.{MayLack}
@@ -171,18 +169,19 @@ module _ (known : Known) (window : List Observation) (store : Store) (sizes : Ha
           ∙ found_bytes known.pages pages_found)
       go (inr e) = inr (length_is ∙ ap (λ o. bytes_left o (known.pages * PAGE_SIZE)) e)
 
-  counts_after : MayLack (Some entries_found) known.entries (table_length after.table)
-      (list_any resizes_table window ≡ false)
-  counts_after =
-      left_place nat_eq eqb-true own_number known.entries (Some entries_found) (last_some effect_entries effects)
-      (last_some effect_entries left) (table_length after.table) need.entries
-      (done.entries ∙ ap (unwrap_or (last_some effect_entries left)) known_count)
-      (list_any resizes_table window ≡ false) are.entries (go (list_any resizes_table window) refl)
+  counts_after : (table_length after.table ≡ entries_found) ⊎ (table_length after.table ≡ known.entries)
+  counts_after = go are.entries
     where
-      go : (b : Bool) → list_any resizes_table window ≡ b
-          → (list_any resizes_table window ≡ false) ⊎ (last_some effect_entries left ≡ last_some effect_entries effects)
-      go false e = inl e
-      go true e = inr (are.resized e)
+      count_is : table_length after.table ≡ unwrap_or (last_some effect_entries left) known.entries
+      count_is = done.entries ∙ ap (unwrap_or (last_some effect_entries left)) known_count
+
+      go : IsLeft (last_some effect_entries effects) (last_some effect_entries left)
+          → (table_length after.table ≡ entries_found) ⊎ (table_length after.table ≡ known.entries)
+      go (inl e) =
+          inl
+          (count_is ∙ ap (λ o. unwrap_or o known.entries) (e ∙ need.entries)
+          ∙ needed_else nat_eq eqb-true known.entries (Some entries_found))
+      go (inr e) = inr (count_is ∙ ap (λ o. unwrap_or o known.entries) e)
 
   -- at each place the store holds what the window reads first, else what is known; or it lacks that
   pub less_needed : HoldsLess known window after

@@ -13,12 +13,11 @@ use Rattle.history_spec.specs.Configuration.{Frame, Activation, Config}
 use Rattle.history_spec.specs.Instruction.{Execution, Did, Traps, NoRule}
 use Rattle.history_spec.specs.Step.{Program, after_control, after_instruction}
 use Rattle.record_replay_spec.specs.Alike.{same_option, same_values}
-use Rattle.record_replay_spec.proofs.Alike.{values_same}
+use Rattle.record_replay_spec.proofs.Alike.{values_same, own_option, own_value}
 use Rattle.record_replay_spec.specs.ShownStepLaws.{shown}
 use Rattle.record_replay_spec.proofs.Alike.{option_same}
 use Rattle.type_safety.specs.Frames.{Scope}
 use Rattle.type_safety.specs.Results.{HasRule}
-use Rattle.tape_laws.proofs.Same.{own_option, own_value}
 
 -- two values are equal or differ
 abbrev IsDecided : {X : Type 0} → X → X → Type 0

@@ -1,10 +1,11 @@
 -- The claim that a tape's run differs from the scripted run if something is removed from the tape.
-use Rattle.std.proofs.Common.{◌≡◌, ℕ, suc, ◌*◌, ◌≤◌, List, [], ◌∷◌, ◌++◌, length, ◌<◌, Option, Some, None, false, All, slice_get, refl, sym, ap, ◌∙◌, subst, arith, inl, inr}
+use Rattle.std.proofs.Common.{◌≡◌, ℕ, suc, ◌*◌, ◌≤◌, List, [], ◌∷◌, ◌++◌, length, ◌<◌, Option, Some, None, All, slice_get, refl, sym, ap, ◌∙◌, subst, arith, inl, inr}
 use Rattle.std.specs.Prelude.{◌≢◌, ◌⊎◌, IfSome}
-use Rattle.std.specs.List.{list_any}
+use Rattle.std.specs.List.{AllByRecursion}
 use Rattle.std.proofs.lemmas.Option.{none-some}
 use Rattle.wasm_syntax.specs.declared.limits.TheConstants.{PAGE_SIZE}
 use Rattle.wasm_syntax.specs.declared.modules.Module.{Module}
+use Rattle.wasm_syntax.proofs.JoinedLists.{both_parts}
 use Rattle.wasm_syntax.specs.declared.signatures.Limits.{Limits}
 use Rattle.wasm_syntax.specs.Index.{all_memories}
 use Rattle.wasm_syntax.specs.Validity.{IsValid}
@@ -37,7 +38,7 @@ use Rattle.type_safety.specs.Laws.{InstructionsHaveRules}
 use Rattle.type_safety.specs.Frames.{Scope}
 use Rattle.type_safety.specs.Results.{IsControl, HasRule}
 use Rattle.type_safety.specs.Stores.{MayBeMemory, IsStore}
-use Rattle.tape_laws.specs.Dropped.{resizes_table, IsAnother, DisagreesEarly, HasAnother, AreLeft, AreLeftSegments}
+use Rattle.tape_laws.specs.Dropped.{IsAnother, DisagreesEarly, HasAnother, AreLeft, AreLeftSegments}
 use Rattle.tape_laws.proofs.Stores.{IsHere, Maxima, maxima}
 use Rattle.tape_laws.proofs.Effects.{AreDone}
 use Rattle.tape_laws.proofs.Activity.{activity}
@@ -56,6 +57,7 @@ use Rattle.tape_laws.proofs.DroppedActivity.{less_needed, none_left, all_left, p
 use Rattle.tape_laws.proofs.DroppedTypes.{IsBetween, either_of, store_typed}
 use Rattle.tape_laws.proofs.DroppedEntries.{AreShown, Same, Apart, rules_shown, entry_first}
 use Rattle.tape_laws.proofs.Ready.{own_shares}
+use Rattle.tape_laws.proofs.Trails.{IsOfCore}
 
 -- ---- runs that differ
 
@@ -81,10 +83,12 @@ other_step code t history (HasAnother count shown own other more after is has ap
 
 -- ---- the claim
 
--- The segments are what is left of the needed ones, and the store holds at each place what the window reads first, or
--- lacks it; something was removed from the segments, or the store lacks something.
+-- The observations are those of a module of the form Core, the segments are what is left of the needed ones, and the
+-- store holds at each place what the window reads first, or lacks it; something was removed from the segments, or the
+-- store lacks something.
 pub record IsLacking (m : Module) (known : Known) (left : List Observation) (store : Store)
     (segments : List Segment) : Type 0 where
+  pub core : AllByRecursion IsOfCore left
   pub whole : List Segment
   pub needed : AreKeptSegments known left whole
   pub are_left : AreLeftSegments left whole segments
@@ -217,7 +221,7 @@ module _ (alike : ObservedStepsAreAlike) (answered : ShownStepsAreAnswered) (rul
           size (inr h) = (known.pages, h, omega (arith, pages_of_other), of.pages)
 
           count : (table_length after.table ≡ found_entries known.entries (window left))
-              ⊎ ((table_length after.table ≡ known.entries) × (list_any resizes_table (window left) ≡ false))
+              ⊎ (table_length after.table ≡ known.entries)
               → (table_length other.table ≤ table_length after.table)
               × (table_length after.table ≤ table_length store.table)
           count (inl h) =
@@ -225,9 +229,8 @@ module _ (alike : ObservedStepsAreAlike) (answered : ShownStepsAreAnswered) (rul
               let high = entries.1 in
               (omega (arith, entries_of_other, low, h), omega (arith, h, high))
           count (inr h) =
-              let is = h.0 in
               let high = of.entries in
-              (omega (arith, entries_of_other, is), omega (arith, is, high))
+              (omega (arith, entries_of_other, h), omega (arith, h, high))
 
       after_is : IsStore m after
       after_is =
@@ -288,6 +291,7 @@ module _ (alike : ObservedStepsAreAlike) (answered : ShownStepsAreAnswered) (rul
               (sym (are.0.leaves ∙ needed.0.leaves))
               (goes after segments (d.same ∙ same)
               (record {
+                core = ready.core.1.1;
                 whole = whole;
                 needed = needed.1;
                 are_left = are.1;
@@ -354,12 +358,16 @@ module _ (alike : ObservedStepsAreAlike) (answered : ShownStepsAreAnswered) (rul
       held_before held =
           subst (λ w. Holds known w other) (sym (window_after known store items later before.seen)) held
 
+      core_parts : AllByRecursion IsOfCore items × AllByRecursion IsOfCore later
+      core_parts = both_parts IsOfCore items later ready.core
+
       -- if the instruction shows the same in the other store, that store answers what is observed
       answers : shown frame (execute code other frame) ≡ shown frame (execute code store frame)
           → AnswersAll other items
       answers h =
           answered code store other frame kind (has_bytes_of m store before.is) (has_bytes_of m other ready.typed)
-          (has_entry (execute code store frame) first_rule) h (answers_unshown known items (window later) other holds)
+          (has_entry (execute code store frame) first_rule) h
+          (answers_unshown known items (window later) other holds core_parts.0)
 
       second : AnswersAll other items
           → IsExecutedAlike code store other items frame (execute code store frame) (execute code other frame)
@@ -441,6 +449,7 @@ module _ (alike : ObservedStepsAreAlike) (answered : ShownStepsAreAnswered) (rul
             let r = goes after segments
             (same_maxima_all other items ∙ same ∙ sym (same_maxima_all store items))
             (record {
+              core = (core_parts other segments same later ready).1;
               whole = ready.whole;
               needed = needed_after known store items later ready.whole before.seen ready.needed;
               are_left = left_after known store items later ready.whole segments before.seen ready.are_left;

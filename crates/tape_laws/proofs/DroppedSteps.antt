@@ -113,10 +113,6 @@ module _ (known : Known) (other : Store) where
   count_reads (ResizesTable found left func ∷ seen) answers there h = entries_there other.table found there answers.0
   count_reads (o ∷ seen) answers there h = count_reads seen answers.1 there h
 
-  free_count : {A B C : Type 0} → A ⊎ (B × C) → A ⊎ B
-  free_count (inl a) = inl a
-  free_count (inr p) = inr p.0
-
   -- a store that answers all observations of a window lacks nothing
   pub answered_holds : (seen : List Observation) → AnswersAll other seen → HoldsLess known (seen ++ []) other
       → Holds known (seen ++ []) other
@@ -125,7 +121,7 @@ module _ (known : Known) (other : Store) where
         pages = if_memory other.memory (found_pages known.pages (seen ++ []) * PAGE_SIZE)
             (λ there. size_reads seen answers there less.pages);
         entries = if_table other.table (found_entries known.entries (seen ++ []))
-            (λ there. count_reads seen answers there (free_count less.entries));
+            (λ there. count_reads seen answers there less.entries);
         byte = λ at.
             answered_place (read_byte at) (written_byte at) seen (known.byte at) (byte_of other.memory at) _
             (byte_reads at seen answers) (less.byte at);

@@ -2,8 +2,8 @@
 use Rattle.std.proofs.Common.{◌≡◌, ℕ, ◌+◌, ◌-◌, ◌*◌, ◌<◌, ◌≤◌, List, [], ◌∷◌, ◌++◌, length, Option, Some, None, Bool, true, false, cond, nat_le, nat_lt, slice_get, refl, sym, ap, ◌∙◌, arith, inl, inr}
 use Rattle.std.specs.Prelude.{◌⊎◌, IfSome, unwrap_or}
 use Rattle.std.specs.Option.{option_or}
-use Rattle.std.specs.List.{list_any}
-use Rattle.std.proofs.lemmas.Option.{none-some, same_Some}
+use Rattle.std.specs.List.{AllByRecursion}
+use Rattle.std.proofs.lemmas.Option.{none-some}
 use Rattle.wasm_syntax.specs.declared.limits.TheConstants.{PAGE_SIZE}
 use Rattle.history_spec.specs.Store.{Store, Memory, Table, pages}
 use Rattle.history_spec.specs.Instantiation.{memory_length, table_length}
@@ -13,7 +13,6 @@ use Rattle.record_replay_spec.specs.Windows.{unless_some, first_byte, first_entr
 use Rattle.record_replay_spec.specs.StoreAnswers.{IsReachedAlike, Answers}
 use Rattle.record_replay_spec.specs.Changes.{CanChange, with_change}
 use Rattle.record_replay_spec.specs.Unshown.{copied_byte, first_copied, first_resized, AnswersUnshown}
-use Rattle.tape_laws.specs.Dropped.{resizes_table}
 use Rattle.tape_laws.proofs.Stores.{Maxima, IsThere, IsHere}
 use Rattle.tape_laws.proofs.Relation.{IsSize, IsReadOf, Holds, IsFound, IsSeen}
 use Rattle.tape_laws.proofs.Places.{IsTouched}
@@ -22,6 +21,7 @@ use Rattle.tape_laws.proofs.Items.{one_byte, one_entry, one_global, read_bytes, 
 use Rattle.tape_laws.proofs.Held.{whole_pages, resized_found}
 use Rattle.tape_laws.proofs.StepItems.{there_too}
 use Rattle.tape_laws.proofs.DroppedPlaces.{MayLack, lack_after, none_before}
+use Rattle.tape_laws.proofs.Trails.{IsOfCore}
 
 -- each place holds what the window reads first, else what is known; or what is known, if no copy reads it first; the
 -- sizes are those that the window finds, or the known ones
@@ -29,7 +29,7 @@ pub record HoldsLess (known : Known) (window : List Observation) (store : Store)
   pub pages : (memory_length store.memory ≡ found_pages known.pages window * PAGE_SIZE)
       ⊎ (memory_length store.memory ≡ known.pages * PAGE_SIZE)
   pub entries : (table_length store.table ≡ found_entries known.entries window)
-      ⊎ ((table_length store.table ≡ known.entries) × (list_any resizes_table window ≡ false))
+      ⊎ (table_length store.table ≡ known.entries)
   pub byte : (at : ℕ)
       → MayLack (first_byte window at) (known.byte at) (byte_of store.memory at) (first_copied window at ≡ None)
   pub entry : (at : ℕ) → MayLack (first_entry window at) (known.entry at) (entry_of store.table at) (Unit {0})
@@ -111,21 +111,20 @@ copied_first (o ∷ seen) later at y h =
     (first_copied (seen ++ later) at) (first_byte (seen ++ later) at) None y (copied_is at o)
     (copied_first seen later at y) h
 
--- the size of the table that is resized first in a part is found first, whatever follows
-resized_first : (seen later : List Observation) (known y : ℕ) → first_resized seen ≡ Some y
-    → (found_entries known (seen ++ later) ≡ y) × (list_any resizes_table (seen ++ later) ≡ true)
-resized_first [] later known y h = absurd (none-some y h)
-resized_first (ResizesTable found left func ∷ seen) later known y h = (same_Some found y h, refl)
-resized_first (ReachesEntry index found ∷ seen) later known y h = absurd (none-some y h)
-resized_first (o ∷ seen) later known y h = resized_first seen later known y h
+-- a module of the form Core does not resize the table
+never_resized : (seen : List Observation) → AllByRecursion IsOfCore seen → first_resized seen ≡ None
+never_resized [] core = refl
+never_resized (ResizesTable found left func ∷ seen) core = absurd core.0
+never_resized (ReachesEntry index found ∷ seen) core = refl
+never_resized (o ∷ seen) core = never_resized seen core.1
 
 -- the store does not lack what no entry shows
 pub answers_unshown : (known : Known) (seen later : List Observation) (store : Store)
-    → HoldsLess known (seen ++ later) store → AnswersUnshown store seen
-answers_unshown known seen later store less =
+    → HoldsLess known (seen ++ later) store → AllByRecursion IsOfCore seen → AnswersUnshown store seen
+answers_unshown known seen later store less core =
     record {
       copied = λ at x h. copied at x (copied_first seen later at x h) (less.byte at);
-      resized = λ found h. resized found (resized_first seen later known.entries found h) less.entries;
+      resized = λ found h. absurd (none-some found (sym (never_resized seen core) ∙ h));
     }
   where
     copied : (at x : ℕ) → (first_copied (seen ++ later) at ≡ Some x) × (first_byte (seen ++ later) at ≡ Some x)
@@ -134,17 +133,6 @@ answers_unshown known seen later store less =
         → byte_of store.memory at ≡ x
     copied at x first (inl h) = h ∙ ap (λ o. unwrap_or o (known.byte at)) first.1
     copied at x first (inr h) = absurd (none-some x (sym h.1 ∙ first.0))
-
-    resized : (found : ℕ)
-        → (found_entries known.entries (seen ++ later) ≡ found) × (list_any resizes_table (seen ++ later) ≡ true)
-        → (table_length store.table ≡ found_entries known.entries (seen ++ later))
-        ⊎ ((table_length store.table ≡ known.entries) × (list_any resizes_table (seen ++ later) ≡ false))
-        → table_length store.table ≡ found
-    resized found first (inl h) = h ∙ first.0
-    resized found first (inr h) = apart (sym first.1 ∙ h.1)
-      where
-        apart : true ≡ false → table_length store.table ≡ found
-        apart e = cc
 
 -- ---- an observation that the store answers
 
@@ -203,10 +191,9 @@ module _ (known : Known) (store : Store) (o : Observation) (seen : IsSeen known 
       (found_entries (entries_after known.entries o) later)
       ((at : ℕ) (x : Option ℕ) → first_entry later at ≡ Some x → at < entries_after known.entries o)
       → (table_length other.table ≡ found_entries known.entries (o ∷ later))
-      ⊎ ((table_length other.table ≡ known.entries) × (list_any resizes_table (o ∷ later) ≡ false))
+      ⊎ (table_length other.table ≡ known.entries)
       → (table_length (with_change other o).table ≡ found_entries (entries_after known.entries o) later)
-      ⊎ ((table_length (with_change other o).table ≡ entries_after known.entries o)
-      × (list_any resizes_table later ≡ false))
+      ⊎ (table_length (with_change other o).table ≡ entries_after known.entries o)
   count_after (ReachesEntry index found) answers here possible long is store_here store_answers can s h =
       go (nat_lt index known.entries) refl s h
     where
@@ -215,14 +202,14 @@ module _ (known : Known) (store : Store) (o : Observation) (seen : IsSeen known 
           (found_entries (cond b known.entries found) later)
           ((at : ℕ) (x : Option ℕ) → first_entry later at ≡ Some x → at < cond b known.entries found)
           → (table_length other.table ≡ cond b (found_entries known.entries later) found)
-          ⊎ ((table_length other.table ≡ known.entries) × (list_any resizes_table later ≡ false))
+          ⊎ (table_length other.table ≡ known.entries)
           → (table_length other.table ≡ found_entries (cond b known.entries found) later)
-          ⊎ ((table_length other.table ≡ cond b known.entries found) × (list_any resizes_table later ≡ false))
+          ⊎ (table_length other.table ≡ cond b known.entries found)
       go true e s h = h
       go false e s (inl h) =
           inl
           (h ∙ sym (size_found found (table_length store.table) (found_entries found later) _ (sym is) s))
-      go false e s (inr h) = inr (past_entries other.table known.entries index found answers here e h.0, h.1)
+      go false e s (inr h) = inr (past_entries other.table known.entries index found answers here e h)
   count_after (ResizesTable found left func) answers here possible long is store_here store_answers can s h =
       let size : table_length other.table ≡ found = entries_there other.table found here answers in
       let more : found ≤ left = possible in
@@ -234,7 +221,7 @@ module _ (known : Known) (store : Store) (o : Observation) (seen : IsSeen known 
   count_after (WritesEntry index func) answers here possible long is store_here store_answers can s (inl h) =
       inl (long ∙ h)
   count_after (WritesEntry index func) answers here possible long is store_here store_answers can s (inr h) =
-      inr (long ∙ h.0, h.1)
+      inr (long ∙ h)
   count_after o answers here possible long is store_here store_answers can s h = h
 
   -- what the store holds after an observation
@@ -290,19 +277,19 @@ module _ (known : Known) (store : Store) (o : Observation) (seen : IsSeen known 
   count_before : (o : Observation) → Answers other o → IsHere other o
       → table_length (with_change other o).table ≡ left_entries (table_length other.table) o
       → (table_length other.table ≡ found_entries known.entries (o ∷ later))
-      ⊎ ((table_length other.table ≡ known.entries) × (list_any resizes_table (o ∷ later) ≡ false))
+      ⊎ (table_length other.table ≡ known.entries)
       → table_length (with_change other o).table ≡ found_entries (entries_after known.entries o) later
       → table_length other.table ≡ found_entries known.entries (o ∷ later)
   count_before (ReachesEntry index found) answers here long h held = go (nat_lt index known.entries) refl h held
     where
       go : (b : Bool) → nat_lt index known.entries ≡ b
           → (table_length other.table ≡ cond b (found_entries known.entries later) found)
-          ⊎ ((table_length other.table ≡ known.entries) × (list_any resizes_table later ≡ false))
+          ⊎ (table_length other.table ≡ known.entries)
           → table_length other.table ≡ found_entries (cond b known.entries found) later
           → table_length other.table ≡ cond b (found_entries known.entries later) found
       go true e h held = held
       go false e (inl h) held = h
-      go false e (inr h) held = past_entries other.table known.entries index found answers here e h.0
+      go false e (inr h) held = past_entries other.table known.entries index found answers here e h
   count_before (ResizesTable found left func) answers here long h held =
       entries_there other.table found here answers
   count_before (WritesEntry index func) answers here long h held = sym long ∙ held

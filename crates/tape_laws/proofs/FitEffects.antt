@@ -34,11 +34,11 @@ use Rattle.record_replay_spec.proofs.OneList.{globals_after, entries_after, orde
 use Rattle.tape_laws.proofs.Stores.{IsThere}
 use Rattle.tape_laws.proofs.Effects.{or_second, last_among, some_bytes}
 use Rattle.record_replay_spec.proofs.OneList.{pages_after}
+use Rattle.record_replay_spec.proofs.Alike.{own_value}
 use Rattle.tape_laws.proofs.Activities.{HasSizes, changes_after, no_table_growth, needed_is, size_between, byte_there, entry_there}
 use Rattle.tape_laws.proofs.Activity.{size_needed, memory_seen, table_seen}
 use Rattle.tape_laws.proofs.HostStores.{sizes_of, type_at}
 use Rattle.tape_laws.proofs.KeptStores.{IsDeclared, IsKept}
-use Rattle.tape_laws.proofs.Same.{own_value}
 
 -- ---- sizes
 

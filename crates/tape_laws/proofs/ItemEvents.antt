@@ -1,16 +1,12 @@
 -- The events that hooks report of a step's observations, and what the log knows after them.
 use Rattle.std.proofs.Common.{◌≡◌, ℕ, List, [], ◌∷◌, ◌++◌, Option, Some, None, Bool, true, false, cond, ◌&&◌, nat_eq, slice_get, refl, sym, ap, ◌∙◌, subst, inl}
-use Rattle.std.specs.Prelude.{◌⊎◌, option_map}
+use Rattle.std.specs.Prelude.{◌⊎◌}
 use Rattle.std.proofs.lemmas.List.{append-nil}
-use Rattle.std.proofs.lemmas.Option.{same_Some}
 use Rattle.wasm_syntax.specs.declared.values.Val.{Val}
 use Rattle.wasm_syntax.specs.declared.signatures.GlobalType.{GlobalType}
-use Rattle.wasm_syntax.specs.Alike.{same_type}
-use Rattle.wasm_syntax.proofs.ValTypes.{type_own}
 use Rattle.base.specs.declared.outcomes.Outcome.{Outcome}
 use Rattle.base.specs.declared.outcomes.Outcome.TheVariants.{Ended, Trapped, HostTrapped}
 use Rattle.base.proofs.Options.{or_none}
-use Rattle.base.proofs.Booleans.{own_number}
 use Rattle.trace_model.specs.declared.events.Event.{Event}
 use Rattle.trace_model.specs.declared.events.Event.TheVariants.{Enter, Leave, Pre, Post, Grow, Seen, Table, Bytes, Entry, Global}
 use Rattle.trace_model.specs.declared.tapes.Effect.TheVariants as effects
@@ -18,11 +14,12 @@ use Rattle.history_spec.specs.Store.{Store}
 use Rattle.record_replay_spec.specs.Observations.{Observation, Begins, Ends, Reads, Copies, Writes, Reaches, Resizes, ReadsEntry, WritesEntry, ReachesEntry, ResizesTable, ReadsGlobal, WritesGlobal}
 use Rattle.record_replay_spec.specs.Known.{Known, pages_of}
 use Rattle.record_replay_spec.specs.Alike.{same_option, same_value}
+use Rattle.record_replay_spec.proofs.Alike.{own_value}
 use Rattle.tape_laws.proofs.Items.{pages_there}
-use Rattle.tape_laws.proofs.Relation.{IsKnownOf, IsSeen}
+use Rattle.tape_laws.proofs.Relation.{IsSeen}
 use Rattle.record_replay_spec.specs.Needed.{effect_pages, effect_entries, effect_byte, effect_entry, effect_global}
 use Rattle.record_replay_spec.specs.Hooks.{renumber, original}
-use Rattle.record_replay_spec.specs.Logs.{LogState, unless, same_bits, all_observed_events}
+use Rattle.record_replay_spec.specs.Logs.{LogState, unless, all_observed_events}
 use Rattle.record_replay_spec.specs.LogTapes.{Finds, LogFrame, is_trapped_call, event_marks, marks_from}
 use Rattle.tape_laws.specs.ReportedObservations.{is_mutable, reported_observation}
 use Rattle.tape_laws.proofs.Trails.{IsOfCore}
@@ -106,16 +103,6 @@ pub record Keeps (n : ℕ) (globals : List GlobalType) (known : Known) (store : 
   pub real : state.noticed ≡ pages_of store.memory
   pub size_reported : (size ≡ state.noticed) ⊎ (known.pages ≡ state.noticed)
 
--- a value that is read of a global is the known one if and only if its bits are the known ones
-same_by_bits : (known : Option Val) (value : Val) → option_map (λ v. v.ty) known ≡ Some value.ty
-    → same_bits known value ≡ same_option same_value known (Some value)
-same_by_bits None value typed = cc
-same_by_bits (Some k) value typed =
-    let t : k.ty ≡ value.ty = same_Some k.ty value.ty typed in
-    sym
-    (ap (λ b. b && nat_eq k.bits value.bits)
-    (ap (λ ty. same_type ty value.ty) t ∙ type_own value.ty))
-
 module _ (n : ℕ) (globals : List GlobalType) (back : (func : ℕ) → original n (renumber n func) ≡ Some func)
     (size : ℕ) where
   -- what is found of a global, if it is reported unless it is known
@@ -133,14 +120,12 @@ module _ (n : ℕ) (globals : List GlobalType) (back : (func : ℕ) → original
 
   -- a read of a mutable global finds what the read needs
   global_found : (known : Known) (state : LogState) (x : ℕ) (value : Val) → IsReportedKnown n known state.known
-      → option_map (λ v. v.ty) (known.global x) ≡ Some value.ty
       → AreFindsOf known (ReadsGlobal x value)
       (finds_of size (all_observed_events n state (ReadsGlobal x value ∷ [])))
-  global_found known state x value reported typed =
+  global_found known state x value reported =
       subst
       (λ b. AreFindsOf known (ReadsGlobal x value) (finds_of size (unless b (Global x value) ++ [])))
-      (sym
-      (ap (λ k. same_bits k value) (reported.global x) ∙ same_by_bits (known.global x) value typed))
+      (sym (ap (λ k. same_option same_value k (Some value)) (reported.global x)))
       (subst (λ events. AreFindsOf known (ReadsGlobal x value) (finds_of size events))
       (sym (append-nil (unless (same_option same_value (known.global x) (Some value)) (Global x value))))
       (global_place known x value (same_option same_value (known.global x) (Some value)) refl))
@@ -149,18 +134,11 @@ module _ (n : ℕ) (globals : List GlobalType) (back : (func : ℕ) → original
   immutable_found : (known : Known) (x : ℕ) (value : Val) → known.global x ≡ Some value
       → AreFindsOf known (ReadsGlobal x value) []
   immutable_found known x value same =
-      global_place known x value true
-      (ap (λ k. same_option same_value k (Some value)) same
-      ∙ ap (λ b. b && nat_eq value.bits value.bits) (type_own value.ty) ∙ own_number value.bits)
+      global_place known x value true (ap (λ k. same_option same_value k (Some value)) same ∙ own_value value)
 
-  module _ (known : Known) (store : Store) (state : LogState) (kept : Keeps n globals known store state size)
-      (of : IsKnownOf known store) where
+  module _ (known : Known) (store : Store) (state : LogState) (kept : Keeps n globals known store state size) where
     noticed_at : (found : ℕ) → pages_of store.memory ≡ found → IsNoticed state.noticed size known.pages found
     noticed_at found is = record { is_real = kept.real ∙ is; is_reported = kept.size_reported }
-
-    typed_at : (x : ℕ) (value : Val) → slice_get store.globals x ≡ Some value
-        → option_map (λ v. v.ty) (known.global x) ≡ Some value.ty
-    typed_at x value is = of.types x ∙ ap (option_map (λ v. v.ty)) is
 
     -- what hooks report of an observation finds what the observation needs
     pub reported_finds : (o : Observation) → IsSeen known store o → IsOfCore o
@@ -185,6 +163,6 @@ module _ (n : ℕ) (globals : List GlobalType) (back : (func : ℕ) → original
         by : (b : Bool) → is_mutable (slice_get globals x) ≡ b
             → AreFindsOf known (ReadsGlobal x value)
             (finds_of size (all_observed_events n state (cond b (ReadsGlobal x value ∷ []) [])))
-        by true e = global_found known state x value kept.reported (typed_at x value seen.answers)
+        by true e = global_found known state x value kept.reported
         by false e = immutable_found known x value (kept.immutable x e ∙ seen.answers)
     reported_finds (WritesGlobal x value) seen core = writes_global_found n size known state kept.reported x value

@@ -248,7 +248,7 @@ module _ (n : ℕ) (globals : List GlobalType) (back : (func : ℕ) → original
             (events_find n state (reported_observation n globals o))))
             (agrees_observation known o (items ++ left) (finds_of size events)
             (marks_from n outcome frames size more) (of_store store o are.0.here)
-            (reported_finds n globals back size known store state kept of o are.0 core.0)
+            (reported_finds n globals back size known store state kept o are.0 core.0)
             (settled known store o (window (items ++ left)) are.0 rest.1) rest.0),
         subst (λ w. IsReadOf known w store) (sym (windowed o are.0.here))
             (read_of_before known store o are.0 (window (items ++ left)) rest.1),

@@ -57,6 +57,7 @@ pub mod Trails
 pub mod EachMoment
 pub mod Reportable
 pub mod ModuleFacts
+pub mod CoreObservations
 pub mod KnownValues
 pub mod NextInstructions
 pub mod Mirrors
@@ -78,10 +79,16 @@ pub mod ItemEvents
 pub mod ItemSteps
 pub mod CallLogs
 pub mod LogMarks
+pub mod LogStands
 pub mod TrailLogs
 pub mod TrailLogSteps
 pub mod LoggedTrails
 pub mod WholeLogs
+pub mod FoundSizes
+pub mod TrailSizes
+pub mod KnownAfterCalls
+pub mod PendingValues
+pub mod LogMeaning
 pub mod BalancedEvents
 pub mod HostTraps
 pub mod BalancedCalls

@@ -1,5 +1,5 @@
 -- The hook calls of a whole trail have events, and the marks of these events agree with the trail's observations.
-use Rattle.std.proofs.Common.{◌≡◌, ℕ, ◌-◌, List, [], ◌∷◌, ◌++◌, length, Option, Some, false, refl, sym, ap, ◌∙◌, subst}
+use Rattle.std.proofs.Common.{◌≡◌, ℕ, ◌-◌, List, [], ◌∷◌, ◌++◌, length, Option, Some, false, refl, sym, ap, subst}
 use Rattle.std.proofs.lemmas.List.{append-nil}
 use Rattle.std.proofs.lemmas.Option.{same_Some}
 use Rattle.wasm_syntax.specs.declared.values.Val.{Val}
@@ -38,7 +38,8 @@ use Rattle.tape_laws.proofs.TrailLogs as trail_logs
 use Rattle.tape_laws.proofs.LogMarks.{log_frames, IsSizeReported, ModuleAgrees, AgreesBy, agrees_host}
 use Rattle.tape_laws.proofs.TrailLogSteps as trail_steps
 use Rattle.tape_laws.proofs.CallLogs.{Logged}
-use Rattle.tape_laws.proofs.TrailLogs.{Stands, StandsAt, Reports_by, Reports, Rest, FirstReports}
+use Rattle.tape_laws.proofs.TrailLogs.{Reports_by, Reports, Rest, FirstReports}
+use Rattle.tape_laws.proofs.LogStands.{Stands, StandsAt, stands_there, stands_kept, outside_stands}
 use Rattle.tape_laws.proofs.EachMoment.{holds_for}
 
 module _ (m : Module) (shape : HookedShape) (hooked : IsHooked m shape) (outcome : Outcome) where
@@ -63,10 +64,8 @@ module _ (m : Module) (shape : HookedShape) (hooked : IsHooked m shape) (outcome
       now : List Moment → List Moment
       now l = record moment { entry = Trap func number kind operands found } ∷ l
 
-      here : Stands m shape outcome (AtFunction func ∷ h.below) known moment.before st
-      here =
-          subst (λ l. Stands m shape outcome l known moment.before st) h.stands
-          (subst (λ s. Stands m shape outcome levels known s st) (sym h.begins) stands)
+      here : Stands m (AtFunction func ∷ h.below) known moment.before st
+      here = stands_there m levels (AtFunction func ∷ h.below) known store moment.before st h.stands h.begins stands
 
       over : outcome ≡ Trapped
       over = same_Some outcome Trapped h.over
@@ -80,12 +79,7 @@ module _ (m : Module) (shape : HookedShape) (hooked : IsHooked m shape) (outcome
       agree size more size_reported none =
           let a = agrees_all n (all_globals m) (hooked.indices.of_renumbered n) size outcome (log_frames (AtFunction func ∷ h.below)) known
           moment.before st left [] more
-          (record {
-            reported = here.reported;
-            immutable = here.immutable;
-            real = here.real tt;
-            size_reported = size_reported;
-          })
+          (stands_kept m func h.below known moment.before st size size_reported here)
           h.of h.are h.core (nothing_read (known_after_all known left) (with_changes moment.before left))
           (subst (Agrees (known_after_all known left) []) (sym none) (agrees_over (known_after_all known left))) in
           record {
@@ -186,11 +180,8 @@ module _ (m : Module) (shape : HookedShape) (hooked : IsHooked m shape) (outcome
     where
       r : Reports m shape outcome (AtCall h.direct import false h.args ∷ h.below) known moment.after h.later st later
       r = rest (AtCall h.direct import false h.args ∷ h.below) known moment.after h.later st h.follows
-          (record {
-            reported = stands.reported;
-            immutable = λ at i. stands.immutable at i ∙ sym (h.keeps at i);
-            real = λ w. absurd w;
-          })
+          (outside_stands m levels (AtCall h.direct import false h.args ∷ h.below) known store moment.after st h.keeps
+          (λ w. w) stands)
 
   host_trapped : FirstReports m shape outcome HostTrap
   host_trapped later moment levels known store left st h stands rest =
@@ -244,5 +235,5 @@ module _ (m : Module) (shape : HookedShape) (hooked : IsHooked m shape) (outcome
 
   pub reports : (moments : List Moment) → Rest m shape outcome moments
   reports =
-      holds_for m shape (Some outcome) (StandsAt m shape outcome) (Reports m shape outcome) at_entry
+      holds_for m shape (Some outcome) (StandsAt m) (Reports m shape outcome) at_entry
       (λ levels known store left st h stands. at_end outcome refl levels known store left st h)

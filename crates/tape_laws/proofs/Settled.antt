@@ -12,11 +12,11 @@ use Rattle.record_replay_spec.specs.Alike.{same_option, same_value}
 use Rattle.record_replay_spec.specs.Windows.{unless_some, first_byte, first_entry, first_global}
 use Rattle.record_replay_spec.specs.Needed.{needed}
 use Rattle.record_replay_spec.specs.Changes.{with_change}
+use Rattle.record_replay_spec.proofs.Alike.{own_option, own_value}
 use Rattle.tape_laws.proofs.Relation.{IsSize, IsReadOf, IsSeen}
 use Rattle.tape_laws.proofs.Changes.{IsChangedBy, left_pages, left_entries, changed_by}
 use Rattle.tape_laws.proofs.Items.{one_byte, one_entry, one_global, size_found, pages_there, entries_there}
 use Rattle.tape_laws.proofs.StepItems.{read_of_all}
-use Rattle.tape_laws.proofs.Same.{own_option, own_value}
 use Rattle.tape_laws.proofs.Agrees.{SeesPages, SeesEntries, IsSettled}
 
 -- ---- one place

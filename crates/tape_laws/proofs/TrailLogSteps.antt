@@ -1,5 +1,5 @@
 -- The hook calls of the steps of a trail have events.
-use Rattle.std.proofs.Common.{◌≡◌, ℕ, ◌-◌, List, [], ◌∷◌, ◌++◌, length, take, Option, Some, Bool, true, false, cond, nat_lt, slice_get, refl, sym, ap, ◌∙◌, subst, inl}
+use Rattle.std.proofs.Common.{◌≡◌, ℕ, ◌-◌, List, [], ◌∷◌, ◌++◌, length, take, Option, Some, Bool, true, false, cond, nat_lt, refl, sym, ap, ◌∙◌, subst, inl}
 use Rattle.std.specs.Prelude.{Ok}
 use Rattle.std.specs.List.{AllByRecursion}
 use Rattle.std.proofs.lemmas.List.{append_assoc}
@@ -16,7 +16,7 @@ use Rattle.history_spec.specs.declared.entries.Entry.TheVariants.{Step}
 use Rattle.history_spec.specs.Instantiation.{table_length}
 use Rattle.history_spec.specs.Instruction.{bits_at}
 use Rattle.history_spec.specs.Store.{Store}
-use Rattle.record_replay_spec.specs.Known.{Known, pages_of, entries_after, known_after_all}
+use Rattle.record_replay_spec.specs.Known.{Known, entries_after, known_after_all}
 use Rattle.record_replay_spec.specs.Observations.{Observation, ReachesEntry}
 use Rattle.record_replay_spec.specs.Windows.{window}
 use Rattle.record_replay_spec.specs.Changes.{with_changes}
@@ -38,7 +38,8 @@ use Rattle.tape_laws.proofs.ItemSteps.{keeps_after_all, agrees_all}
 use Rattle.tape_laws.proofs.TrailLogs as trail_logs
 use Rattle.tape_laws.proofs.LogMarks.{log_frames, CallOnTop, IsSizeReported, ModuleAgrees, AgreesBy, AgreesAt}
 use Rattle.tape_laws.proofs.CallLogs.{Logged}
-use Rattle.tape_laws.proofs.TrailLogs.{Stands, Reports_by, Reports, Rest, FirstReports}
+use Rattle.tape_laws.proofs.TrailLogs.{Reports_by, Reports, Rest, FirstReports}
+use Rattle.tape_laws.proofs.LogStands.{Stands, stands_there, stands_kept, kept_stands}
 
 module _ (m : Module) (shape : HookedShape) (hooked : IsHooked m shape) (outcome : Outcome) where
   abbrev n : ℕ
@@ -102,7 +103,7 @@ module _ (m : Module) (shape : HookedShape) (hooked : IsHooked m shape) (outcome
       (st : LogState) (items obs : List Observation) (of : IsKnownOf known moment.before)
       (are : AreSeen known moment.before items) (core : AllByRecursion IsOfCore items)
       (changed : moment.after ≡ with_changes moment.before items)
-      (stands : Stands m shape outcome (AtFunction func ∷ below) known moment.before st) (rest : Rest m shape outcome later)
+      (stands : Stands m (AtFunction func ∷ below) known moment.before st) (rest : Rest m shape outcome later)
       (follows : IsTrail m shape (Some outcome) later after (known_after_all known items) moment.after obs) where
     abbrev top : List Level
     top = AtFunction func ∷ below
@@ -114,27 +115,17 @@ module _ (m : Module) (shape : HookedShape) (hooked : IsHooked m shape) (outcome
     st_next = log_after_all st (reported items)
 
     kept_at : (size : ℕ) → IsSizeReported size known st → Keeps n (all_globals m) known moment.before st size
-    kept_at size size_reported =
-        record {
-          reported = stands.reported;
-          immutable = stands.immutable;
-          real = stands.real tt;
-          size_reported = size_reported;
-        }
+    kept_at size size_reported = stands_kept m func below known moment.before st size size_reported stands
 
     kept_next : (size : ℕ) → IsSizeReported size known st
         → Keeps n (all_globals m) known_next (with_changes moment.before items) st_next size
     kept_next size size_reported =
         keeps_after_all n (all_globals m) (hooked.indices.of_renumbered n) size known moment.before st items (kept_at size size_reported) are core
 
-    stands_next : Stands m shape outcome after known_next moment.after st_next
+    stands_next : Stands m after known_next moment.after st_next
     stands_next =
-        let k = kept_next st.noticed (inl refl) in
-        record {
-          reported = k.reported;
-          immutable = λ at i. k.immutable at i ∙ sym (ap (λ (s : Store). slice_get s.globals at) changed);
-          real = λ w. k.real ∙ sym (ap (λ (s : Store). pages_of s.memory) changed);
-        }
+        kept_stands m after known_next (with_changes moment.before items) moment.after st_next st.noticed changed
+        (kept_next st.noticed (inl refl))
 
     r : Reports m shape outcome after known_next moment.after obs st_next later
     r = rest after known_next moment.after obs st_next follows stands_next
@@ -233,10 +224,8 @@ module _ (m : Module) (shape : HookedShape) (hooked : IsHooked m shape) (outcome
       now : List Moment
       now = record moment { entry = Step func number operands results found } ∷ later
 
-      here : Stands m shape outcome (AtFunction func ∷ h.below) known moment.before st
-      here =
-          subst (λ l. Stands m shape outcome l known moment.before st) h.stands
-          (subst (λ s. Stands m shape outcome levels known s st) (sym h.begins) stands)
+      here : Stands m (AtFunction func ∷ h.below) known moment.before st
+      here = stands_there m levels (AtFunction func ∷ h.below) known store moment.before st h.stands h.begins stands
 
       -- the hook calls of a step with this instruction, and those after it, have events
       StepReports : Option Instr → Type 0

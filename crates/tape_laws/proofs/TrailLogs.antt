@@ -1,5 +1,5 @@
 -- The hook calls of a trail have events, and the marks of these events agree with the trail's observations.
-use Rattle.std.proofs.Common.{◌≡◌, ℕ, List, [], ◌∷◌, ◌++◌, Option, Some, None, true, false, cond, nat_lt, slice_get, refl, sym, ap, ◌∙◌, subst}
+use Rattle.std.proofs.Common.{◌≡◌, ℕ, List, [], ◌∷◌, ◌++◌, Option, Some, None, true, false, cond, nat_lt, slice_get, sym, ap, ◌∙◌, subst}
 use Rattle.std.specs.Prelude.{◌||◌, Ok}
 use Rattle.std.proofs.Math.Bool.{or-true}
 use Rattle.wasm_syntax.specs.declared.values.Val.{Val}
@@ -13,7 +13,7 @@ use Rattle.trace_model.specs.declared.tapes.Next.TheVariants.{Call, Return}
 use Rattle.history_spec.specs.declared.entries.Entry.{Entry}
 use Rattle.history_spec.specs.declared.entries.Entry.TheVariants.{HostCall, HostReturn, ImportReturn, Enter, Exit}
 use Rattle.history_spec.specs.Store.{Store}
-use Rattle.record_replay_spec.specs.Known.{Known, pages_of}
+use Rattle.record_replay_spec.specs.Known.{Known}
 use Rattle.record_replay_spec.specs.Observations.{Observation, Begins, Ends}
 use Rattle.record_replay_spec.specs.Windows.{window}
 use Rattle.tape_laws.proofs.StepItems.{nothing_read}
@@ -27,24 +27,18 @@ use Rattle.record_replay_spec.specs.declared.hooks.Hook.TheVariants.{Leave}
 use Rattle.tape_laws.proofs.CallOrder as orders
 use Rattle.tape_laws.proofs.ModuleFacts.{func_there}
 use Rattle.tape_laws.proofs.TrailOrder.{same_waiting, calls_at}
-use Rattle.tape_laws.proofs.Trails.{Level, AtFunction, AtImport, AtCall, at_host, with_top_entered, IsWithin, KeepsImmutables, waiting_calls, KnowsImmutables}
+use Rattle.tape_laws.proofs.Trails.{Level, AtFunction, AtCall, with_top_entered, waiting_calls}
 use Rattle.tape_laws.proofs.CallOrder.{IsHooked, renumbered, state, callee_may, never_imported}
 use Rattle.tape_laws.proofs.Agrees.{Agrees, agrees_activity}
 use Rattle.tape_laws.proofs.CallLogs as logs
 use Rattle.tape_laws.proofs.CallLogs.{noticing, Logged}
-use Rattle.tape_laws.proofs.ObservedFinds.{IsReportedKnown}
+use Rattle.tape_laws.proofs.LogStands.{StandsAt, outside, noticed_stands, outside_stands}
 use Rattle.tape_laws.proofs.LogMarks.{log_frames, same_frames, frames_at_host, CallOnTop, not_pre, not_trapped_enter, not_trapped_leave, not_trapped_post, IsSizeReported, noticed_after, ModuleAgrees, AgreesBy, AgreesAt, host_agrees, agrees_host, within_agrees}
 use Rattle.tape_laws.proofs.EachMoment.{HoldsFirst, HoldsFor}
 
 -- ---- a trail
 
 module _ (m : Module) (shape : HookedShape) (outcome : Outcome) where
-  -- what the log knows at a point
-  pub record Stands (levels : List Level) (known : Known) (store : Store) (st : LogState) : Type 0 where
-    pub reported : IsReportedKnown (imported_funcs m) known st.known
-    pub immutable : KnowsImmutables (all_globals m) known store
-    pub real : IsWithin levels → st.noticed ≡ pages_of store.memory
-
   -- hook calls have events, and the marks of these events agree with the remaining observations
   pub record Reports_by (levels : List Level) (known : Known) (store : Store) (left : List Observation) (st : LogState)
       (calls : List HookCall) : Type 0 where
@@ -61,18 +55,14 @@ module _ (m : Module) (shape : HookedShape) (outcome : Outcome) where
   Reports levels known store left st moments =
       Reports_by levels known store left st (renumbered m (calls_at m levels moments))
 
-  -- what the log knows at a point of a trail
-  abbrev pub StandsAt : List Level → Known → Store → List Observation → LogState → Type 0
-  StandsAt levels known store left st = Stands levels known store st
-
   -- the hook calls of the moments after a moment have events that agree
   abbrev pub Rest : List Moment → Type 0
-  Rest later = HoldsFor m shape (Some outcome) StandsAt Reports later
+  Rest later = HoldsFor m shape (Some outcome) (StandsAt m) Reports later
 
   -- the hook calls of a trail's first moment, by its entry, and those after it have events that agree, if those after
   -- it do
   abbrev pub FirstReports : Entry → Type 0
-  FirstReports entry = HoldsFirst m shape (Some outcome) StandsAt Reports entry
+  FirstReports entry = HoldsFirst m shape (Some outcome) (StandsAt m) Reports entry
 
 module _ (m : Module) (shape : HookedShape) (hooked : IsHooked m shape) (outcome : Outcome) where
   abbrev n : ℕ
@@ -101,12 +91,6 @@ module _ (m : Module) (shape : HookedShape) (hooked : IsHooked m shape) (outcome
 
   abbrev marks_at : List Level → ℕ → List Event → List Mark
   marks_at levels size events = marks_from n outcome (log_frames levels) size events
-
-  noticed_stands : (levels next : List Level) (known : Known) (store view : Store) (st : LogState)
-      → KeepsImmutables (all_globals m) store view → Stands m shape outcome levels known store st
-      → Stands m shape outcome next known view (noticing view st)
-  noticed_stands levels next known store view st keeps h =
-      record { reported = h.reported; immutable = λ at i. h.immutable at i ∙ sym (keeps at i); real = λ w. refl }
 
   -- ---- the host calls a function
 
@@ -144,7 +128,7 @@ module _ (m : Module) (shape : HookedShape) (hooked : IsHooked m shape) (outcome
     where
       r : Reports m shape outcome (AtFunction func ∷ with_top_entered levels) known moment.after h.later (noticing moment.after st) later
       r = rest (AtFunction func ∷ with_top_entered levels) known moment.after h.later (noticing moment.after st) h.follows
-          (noticed_stands levels (AtFunction func ∷ with_top_entered levels) known store moment.after st h.keeps stands)
+          (noticed_stands m levels (AtFunction func ∷ with_top_entered levels) known store moment.after st h.keeps stands)
 
       own : List Event
       own = events.Enter func args ∷ (grown_events st.noticed moment.after ++ r.found)
@@ -207,7 +191,7 @@ module _ (m : Module) (shape : HookedShape) (hooked : IsHooked m shape) (outcome
 
       r : Reports m shape outcome h.below known moment.after h.later (noticing moment.after st) later
       r = rest h.below known moment.after h.later (noticing moment.after st) h.follows
-          (noticed_stands levels h.below known store moment.after st h.keeps stands)
+          (noticed_stands m levels h.below known store moment.after st h.keeps stands)
 
       own : List Event
       own = events.Post (slice_get results 0) ∷ (grown_events st.noticed moment.after ++ r.found)
@@ -262,7 +246,7 @@ module _ (m : Module) (shape : HookedShape) (hooked : IsHooked m shape) (outcome
           (noticing moment.after st) later
       r = rest (AtFunction func ∷ AtCall h.direct func true h.args ∷ h.below) known moment.after left
           (noticing moment.after st) h.follows
-          (noticed_stands levels (AtFunction func ∷ AtCall h.direct func true h.args ∷ h.below) known store moment.after st
+          (noticed_stands m levels (AtFunction func ∷ AtCall h.direct func true h.args ∷ h.below) known store moment.after st
           (λ at i. ap (λ (s : Store). slice_get s.globals at) h.same) stands)
 
       own : List Event
@@ -312,19 +296,9 @@ module _ (m : Module) (shape : HookedShape) (hooked : IsHooked m shape) (outcome
         not_last = λ t callee. absurd t;
       })
     where
-      outside : (l : List Level) → at_host n l ≡ true → IsWithin l → ⊥
-      outside [] host w = w
-      outside (AtFunction f ∷ l) host w = cc
-      outside (AtImport direct callee args ∷ l) host w = w
-      outside (AtCall direct callee e args ∷ l) host w = w
-
       r : Reports m shape outcome h.below known moment.after h.later st later
       r = rest h.below known moment.after h.later st h.follows
-          (record {
-            reported = stands.reported;
-            immutable = λ at i. stands.immutable at i ∙ sym (h.keeps at i);
-            real = λ w. absurd (outside h.below h.host w);
-          })
+          (outside_stands m levels h.below known store moment.after st h.keeps (outside n h.below h.host) stands)
 
       marks_are : (size : ℕ)
           → marks_at (AtFunction func ∷ h.below) size (events.Leave func ∷ r.found)
@@ -375,7 +349,7 @@ module _ (m : Module) (shape : HookedShape) (hooked : IsHooked m shape) (outcome
 
       r : Reports m shape outcome h.below known moment.after left (noticing moment.after st) later
       r = rest h.below known moment.after left (noticing moment.after st) h.follows
-          (noticed_stands levels h.below known store moment.after st
+          (noticed_stands m levels h.below known store moment.after st
           (λ at i. ap (λ (s : Store). slice_get s.globals at) h.same) stands)
 
       own : List Event

@@ -10,7 +10,6 @@ use Rattle.record_replay_spec.specs.Known.{opening_known}
 use Rattle.record_replay_spec.specs.Needed.{AreNeededSegments}
 use Rattle.record_replay_spec.specs.Observations.{Begins, activity_observations, run_observations}
 use Rattle.tape_laws.specs.Below.{LawsOfSteps, LawsOfRuns}
-use Rattle.record_replay_spec.specs.Hooks.{renumbered_view}
 use Rattle.record_replay_spec.specs.HookLaws.{IndicesAreRenumbered, InstrumentedKeepIndices}
 use Rattle.record_replay_spec.specs.LogTapes.{log_marks}
 use Rattle.record_replay_spec.specs.Logs.{LogState, log_start, log_with, events_from}
@@ -20,14 +19,30 @@ use Rattle.tape_laws.proofs.CallOrder.{same_length, same_entry, state}
 use Rattle.tape_laws.proofs.Ordered.{hooked_run, observed, moments_of, IsRunTrail, run_trail}
 use Rattle.tape_laws.proofs.TrailsOfRuns.{outcome_of}
 use Rattle.record_replay_spec.proofs.OneTape.{observations_same}
-use Rattle.tape_laws.specs.LogLaws.{LogsGiveNeededTapes, log_of_run}
+use Rattle.tape_laws.specs.LogLaws.{LogsGiveNeededTapes, opened_store, log_of_run}
 use Rattle.tape_laws.proofs.Agrees.{Agrees}
+use Rattle.tape_laws.proofs.LogStands.{Stands}
 use Rattle.tape_laws.proofs.TrailLogs.{Reports}
 use Rattle.tape_laws.proofs.LoggedTrails.{reports}
 
 -- the log before its first event
 abbrev pub first_log : OriginalRun → LogState
-first_log run = log_start (renumbered_view (imported_funcs run.m) run.store)
+first_log run = log_start (opened_store run)
+
+-- what the log knows where the run begins
+pub opening_stands : (run : OriginalRun) → Stands run.m [] (opening_known run.store) run.store (first_log run)
+opening_stands run =
+    record {
+      reported = record {
+        byte = λ at. refl;
+        entry = λ at. same_entry (imported_funcs run.m) run.store.table at;
+        global = λ at. refl;
+        pages = refl;
+        entries = same_length (imported_funcs run.m) run.store.table;
+      };
+      immutable = λ at i. refl;
+      real = λ w. refl;
+    }
 
 -- the log of a run whose hook calls have these events
 pub log_is : (run : OriginalRun) (count : ℕ) (outcome : Outcome) (events : List Event)
@@ -81,17 +96,7 @@ logs_give laws runs indices renumbered run count outcome ends =
         reports run.m (hooked_shape run) (hooked_run indices renumbered run) outcome (moments_of run count) []
         (opening_known run.store) run.store (observed run count) (first_log run)
         (subst (IsRunTrail run count) (ap outcome_of ends) (run_trail laws runs indices run count))
-        (record {
-          reported = record {
-            byte = λ at. refl;
-            entry = λ at. same_entry (imported_funcs run.m) run.store.table at;
-            global = λ at. refl;
-            pages = refl;
-            entries = same_length (imported_funcs run.m) run.store.table;
-          };
-          immutable = λ at i. refl;
-          real = λ w. refl;
-        })
+        (opening_stands run)
 
     agrees : Agrees (opening_known run.store) (Begins Begin ∷ observed run count)
         (log_marks (record { imports = imported_funcs run.m; events = t.found; outcome = outcome }))

@@ -1,7 +1,8 @@
 -- A tape with something removed, and a run with a history other than a given one.
-use Rattle.std.specs.Prelude.{◌≡◌, ◌≢◌, ◌⊎◌, ℕ, List, [], ◌∷◌, ◌++◌, Option, Some, None, Ok, Bool, true, false}
-use Rattle.std.specs.List.{list_all, list_any}
+use Rattle.std.specs.Prelude.{◌≡◌, ◌≢◌, ◌⊎◌, ℕ, List, [], ◌∷◌, ◌++◌, Option, Some, None, Ok, true}
+use Rattle.std.specs.List.{list_all}
 use Rattle.wasm_syntax.specs.declared.modules.Module.{Module}
+use Rattle.wasm_syntax.specs.Encoding.Forms.{IsCoreModule}
 use Rattle.host_script.specs.declared.scripts.Script.{Script}
 use Rattle.host_script.specs.declared.scripts.Supply.{Supply}
 use Rattle.host_script.specs.Fits.{Fits}
@@ -14,19 +15,13 @@ use Rattle.history_spec.specs.Store.{Store}
 use Rattle.history_spec.specs.Code.{Code, code_of}
 use Rattle.history_spec.specs.Instantiation.{instantiate}
 use Rattle.history_spec.specs.Run.{all_one, program_of, start_in_store, run_from}
-use Rattle.record_replay_spec.specs.Observations.{Observation, Begins, Ends, ResizesTable, run_observations}
+use Rattle.record_replay_spec.specs.Observations.{Observation, Begins, Ends, run_observations}
 use Rattle.record_replay_spec.specs.Known.{last_some}
 use Rattle.record_replay_spec.specs.Windows.{window}
 use Rattle.record_replay_spec.specs.Needed.{effect_byte, effect_entry, effect_global, effect_pages, effect_entries, has_bytes, IsNeededTape}
 use Rattle.record_replay_spec.specs.TapeRun.{TapeResult, Disagrees, tape_result, tape_run}
 use Rattle.record_replay_spec.specs.Unshown.{first_copied}
 use Rattle.type_safety.specs.Supplies.{IsRunnable}
-
--- the observation is a size that `table.size` or `table.grow` finds, which replay modules alone contain (Core 2.0,
--- 4.4.6)
-abbrev pub resizes_table : Observation → Bool
-resizes_table (ResizesTable found left func) = true
-resizes_table o = false
 
 -- ---- what is left of a tape
 
@@ -35,8 +30,7 @@ abbrev pub IsLeft : {X : Type 0} → (was left : Option X) → Type 0
 IsLeft was left = (left ≡ was) ⊎ (left ≡ None)
 
 -- The effects of an activity with some bytes, entries, globals and growths removed: the others are in the order of
--- effects, with the bytes in longest runs. A byte that a copy reads first in the window is not removed, nor a growth
--- of the table if the window reads the table's size by an instruction.
+-- effects, with the bytes in longest runs. A byte that a copy reads first in the window is not removed.
 pub record AreLeft (window : List Observation) (effects left : List Effect) : Type 0 where
   pub ordered : AreOrdered left
   pub nonempty : list_all has_bytes left ≡ true
@@ -47,8 +41,6 @@ pub record AreLeft (window : List Observation) (effects left : List Effect) : Ty
   pub global : (at : ℕ) → IsLeft (last_some (effect_global at) effects) (last_some (effect_global at) left)
   pub copied : (at x : ℕ) → first_copied window at ≡ Some x
       → last_some (effect_byte at) left ≡ last_some (effect_byte at) effects
-  pub resized : list_any resizes_table window ≡ true
-      → last_some effect_entries left ≡ last_some effect_entries effects
 
 -- an activity's segment with some of its effects removed
 pub record IsLeftSegment (window : List Observation) (segment left : Segment) : Type 0 where
@@ -97,11 +89,11 @@ HasNothingToSpare m script store segments needed =
     → IsAnother (tape_run (code_of m) store left)
     (run_from (program_of m script) all_one (start_in_store m script store) needed.count).history
 
--- nothing can be removed from a needed tape, for each module that can be run and each script that fits it and links
--- with it
+-- nothing can be removed from a needed tape, for each module of the form Core that can be run and each script that fits
+-- it and links with it
 abbrev pub NothingCanBeDropped : Type 0
 NothingCanBeDropped =
     (m : Module) (script : Script) (supply : Supply) (store : Store) (segments : List Segment)
-    → IsRunnable m → Fits m script → supply_of m script ≡ Ok supply → instantiate m supply ≡ Ok store
+    → IsRunnable m → IsCoreModule m → Fits m script → supply_of m script ≡ Ok supply → instantiate m supply ≡ Ok store
     → (needed : IsNeededTape (program_of m script) (start_in_store m script store) store segments)
     → HasNothingToSpare m script store segments needed

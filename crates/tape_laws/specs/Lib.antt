@@ -6,4 +6,5 @@ pub mod NeededTape
 pub mod ReportedObservations
 pub mod CallLaws
 pub mod LogLaws
+pub mod LogMeaning
 pub mod KnownValues

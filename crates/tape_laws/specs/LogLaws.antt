@@ -5,6 +5,7 @@ use Rattle.base.specs.declared.outcomes.Outcome.{Outcome}
 use Rattle.trace_model.specs.declared.events.Log.{Log}
 use Rattle.trace_model.specs.declared.tapes.Tape.{Tape}
 use Rattle.trace_model.specs.Balance.{IsBalanced}
+use Rattle.history_spec.specs.Store.{Store}
 use Rattle.history_spec.specs.Step.{Finished}
 use Rattle.history_spec.specs.Run.{all_one, program_of, start_in_store, run_from}
 use Rattle.record_replay_spec.specs.Needed.{IsNeededTape}
@@ -13,10 +14,13 @@ use Rattle.record_replay_spec.specs.Logs.{log_of}
 use Rattle.record_replay_spec.specs.LogTapes.{IsLogTape}
 use Rattle.tape_laws.specs.CallLaws.{OriginalRun, hooked_shape, calls_of_run}
 
--- the log of the hook calls of a run, from the store in which the instrumented module begins
+-- the store in which the instrumented module begins
+abbrev pub opened_store : OriginalRun → Store
+opened_store run = renumbered_view (imported_funcs run.m) run.store
+
+-- the log of the hook calls of a run
 abbrev pub log_of_run : OriginalRun → (count : ℕ) → Outcome → Result Log ℕ
-log_of_run run count outcome =
-    log_of (hooked_shape run) (renumbered_view (imported_funcs run.m) run.store) (calls_of_run run count) outcome
+log_of_run run count outcome = log_of (hooked_shape run) (opened_store run) (calls_of_run run count) outcome
 
 -- ---- the laws
 

@@ -87,8 +87,8 @@ pub fn run_has_one_needed_tape()
     needed_tape_is_one();
 }
 
-/// Nothing can be removed from the tape that a scripted run needs: the run of what is left disagrees before it has the
-/// run's history, or has another. A byte that a copy reads first is not removed.
+/// Nothing can be removed from the tape that a scripted run of a module of the form Core needs: the run of what is left
+/// disagrees before it has the run's history, or has another. A byte that a copy reads first is not removed.
 pub fn nothing_can_be_dropped()
     ensures { NothingCanBeDropped }
 {

@@ -13,4 +13,6 @@ pub use laws::{
     nothing_can_be_dropped, other_runs_differ, reads_are_real, run_has_one_needed_tape,
     runs_read_what_is_there,
 };
-pub use log_laws::{logs_are_balanced, logs_give_needed_tapes};
+pub use log_laws::{
+    events_are_differences, logs_are_balanced, logs_are_differences, logs_give_needed_tapes,
+};

@@ -6,7 +6,7 @@ use Rattle.wasm_syntax.specs.declared.values.ValType.{ValType}
 use Rattle.wasm_syntax.specs.declared.modules.Module.{Module}
 use Rattle.wasm_syntax.specs.declared.modules.ElemSeg.{ElemSeg}
 use Rattle.wasm_syntax.specs.declared.modules.DataSeg.{DataSeg}
-use Rattle.wasm_syntax.specs.Index.{func_import, func_indices, global_import, of_kind}
+use Rattle.wasm_syntax.specs.Index.{all_globals, func_import, func_indices, global_import, of_kind}
 use Rattle.host_script.specs.declared.scripts.LinkFault.{LinkFault}
 use Rattle.history_spec.specs.Store.{Store}
 use Rattle.history_spec.specs.Instantiation.{data_fits, elem_fits, first_false, global_value, instantiate, new_store, store_unless, with_segments}
@@ -41,6 +41,13 @@ module _ (m : Module) (bare : IsBare m) where
       ap (λ imports. length (of_kind func_import imports ++ map (λ f. f.ty) m.funcs)) bare.imports
       ∙ length-map m.funcs (λ f. f.ty) in
       omega (arith, same, short)
+
+  pub few_globals : length (all_globals m) ≤ 2 ^ 32
+  few_globals =
+      let none : all_globals m ≡ [] =
+      ap (λ imports. of_kind global_import imports ++ map (λ global. global.ty) m.globals) bare.imports
+      ∙ ap (map (λ global. global.ty)) bare.globals in
+      omega (arith, ap length none)
 
   abbrev store_in : Result Store LinkFault → Store
   store_in (Ok store) = store

@@ -40,7 +40,7 @@ fn no_supply(alloc: Global) -> Supply
 }
 
 /// A recorder before any call; the original imports one function.
-#[tactic(auto, using(crate::proofs::Linking::few, crate::proofs::Linking::links, crate::proofs::Linking::typed))]
+#[tactic(auto, using(crate::proofs::Linking::few, crate::proofs::Linking::few_globals, crate::proofs::Linking::links, crate::proofs::Linking::typed))]
 pub(crate) fn new_recorder(alloc: Global) -> Result<Recorder<Events>, Fail> {
     let module = module_of(alloc)?;
     if module.funcs.as_slice().len() > MAX_FUNCS {

@@ -18,34 +18,6 @@ use Rattle.trace_reduce.proofs.Bytes.{at_key, Ascend, none_below, among_within, 
 
 -- ---- bytes among others
 
-pub among_append : (start : ℕ) (front later : List ℕ) (at : ℕ)
-    → byte_among start (front ++ later) at
-    ≡ option_or (byte_among start front at) (byte_among (start + length front) later at)
-among_append start front later at = go (nat_le start at) refl (nat_le (start + length front) at) refl
-  where
-    go : (b : Bool) → nat_le start at ≡ b → (c : Bool) → nat_le (start + length front) at ≡ c
-        → byte_among start (front ++ later) at
-        ≡ option_or (byte_among start front at) (byte_among (start + length front) later at)
-    go true from true past =
-        let place : at - start ≡ length front + (at - (start + length front)) = grind (arith, nat_tests, from, past) in
-        let none : slice_get front (at - start) ≡ None = slice_get_past front (at - start) (omega (arith, place)) in
-        among_within start (front ++ later) at from
-        ∙ get_after_by front later (at - start) (at - (start + length front)) place
-        ∙ sym (ap (λ o. option_or o (byte_among (start + length front) later at)) (among_within start front at from ∙ none)
-        ∙ among_within (start + length front) later at past)
-    go true from false before =
-        let less : at - start < length front = grind (arith, nat_tests, from, before) in
-        among_within start (front ++ later) at from
-        ∙ get_front front later (at - start) less
-        ∙ sym (ap (option_or (byte_among start front at)) (among_before (start + length front) later at before)
-        ∙ or_none (byte_among start front at)
-        ∙ among_within start front at from)
-    go false before true past = absurd (grind (arith, nat_tests, before, past))
-    go false before false past =
-        among_before start (front ++ later) at before
-        ∙ sym (ap (λ o. option_or o (byte_among (start + length front) later at)) (among_before start front at before)
-        ∙ among_before (start + length front) later at past)
-
 -- ---- one group
 
 -- a group has the bytes for the addresses from `at` on

@@ -1,19 +1,25 @@
 // The entries of a turn, in room that is used again for the next turn.
 
-ghost use Rattle.std.specs.Prelude.{◌≡◌, ◌+◌, ◌^◌, ◌<◌, ◌≤◌, [], ◌∷◌, length, None, OnOk};
+ghost use Rattle.std.specs.Prelude.{◌≡◌, ◌+◌, ◌^◌, ◌<◌, ◌≤◌, [], ◌∷◌, length, None, OnOk, true, option_to_list};
 ghost use Rattle.history_spec.specs.declared.entries.Entry.TheVariants as entry;
+ghost use Rattle.wasm_syntax.specs.Opcodes.{numeric_shape};
+ghost use Rattle.wasm_numeric.specs.Opcode.{kind_of};
+ghost use Rattle.wasm_flat.specs.Slots.{operands_of_shape, result_types};
 ghost use Rattle.flat_steps.specs.FlatStep as flat_step;
+ghost use Rattle.flat_steps.specs.FlatStep.{values_at};
 ghost use Rattle.wasm_interp.specs.InstrEntries.{as_entry, entries_of};
+ghost use Rattle.wasm_interp.specs.OpcodeTypes.{takes_two};
 ghost use Rattle.wasm_interp.specs.Steps.{IsTypedOp, entry_by};
 
 use crate::control::Control;
-use crate::operands::{push_operands, push_results};
+use crate::operands::{push_operands, push_result, push_two};
+use crate::values::push_values;
 use base::NoMemory;
 use flat_steps::FlatFrame;
 use history_spec::{Entry, TrapKind};
 use std::alloc::Global;
 use wasm_flat::{Flat, FlatInstr};
-use wasm_syntax::{List, Val};
+use wasm_syntax::{List, Val, ValType};
 
 /// What a history contains of an instruction: its function and its number, its operands and results, what it
 /// found, and its trap, if it traps. The lists keep their room for the next instruction.
@@ -93,7 +99,18 @@ impl InstrEntry {
         }
     }
 
+    /// Takes the operands and results of the last instruction away.
+    #[inline(always)]
+    pub(crate) fn clear(&mut self)
+        ensures operands { self.new.operands.items ≡ [] }
+        ensures results { self.new.results.items ≡ [] }
+    {
+        self.operands.clear();
+        self.results.clear();
+    }
+
     /// Records the operands of an instruction before it is executed, for an activation whose first slot is `base`.
+    #[inline(always)]
     pub(crate) fn put_operands(
         &mut self,
         flat: &Flat,
@@ -107,21 +124,57 @@ impl InstrEntry {
         ensures results { self.new.results.items ≡ [] }
     {
         let _slots = slots.len();
-        self.operands.clear();
-        self.results.clear();
+        self.clear();
         push_operands(flat, &i.op, slots, base + i.at as usize, &mut self.operands)
     }
 
-    /// Records what an instruction did, by the slots after it; its operands are already recorded here.
+    /// Records the operand of an instruction that has one, of this type and in this slot, before it is executed.
+    #[inline(always)]
+    pub(crate) fn put_operand(
+        &mut self,
+        slots: &[u64],
+        at: usize,
+        ty: ValType,
+    ) -> Result<(), NoMemory>
+        requires { at < 2 ^ 63 }
+        ensures operands { OnOk result (self.new.operands.items ≡ values_at slots.now at (ty ∷ [])) }
+        ensures results { self.new.results.items ≡ [] }
+    {
+        self.clear();
+        push_values(slots, at, &[ty], &mut self.operands)
+    }
+
+    /// Records the operands of a numeric instruction that takes two, from this slot on, before it is executed.
+    #[inline(always)]
+    pub(crate) fn put_two_operands(
+        &mut self,
+        slots: &[u64],
+        at: usize,
+        opcode: u8,
+    ) -> Result<(), NoMemory>
+        requires two { takes_two (kind_of opcode) ≡ true }
+        requires small { at < 2 ^ 63 }
+        ensures operands { OnOk result
+            (self.new.operands.items ≡ values_at slots.now at (operands_of_shape (numeric_shape opcode))) }
+        ensures results { self.new.results.items ≡ [] }
+    {
+        self.clear();
+        push_two(opcode, slots, at, &mut self.operands)
+    }
+
+    /// Records what an instruction did, by the slots after it and by the type of its result, if it has one; its
+    /// operands are already recorded here.
+    #[inline(always)]
     pub(crate) fn put_control(
         &mut self,
         _flat: &Flat,
         slots: &[u64],
         frame: FlatFrame,
         i: &FlatInstr,
+        ty: Option<ValType>,
         control: Control,
     ) -> Result<(), NoMemory>
-        requires instr { IsTypedOp i.now.op }
+        requires result { result_types i.now.op ≡ option_to_list ty }
         requires small { frame.base ≤ length slots.now }
         requires none { self.old.results.items ≡ [] }
         ensures { OnOk result
@@ -135,7 +188,7 @@ impl InstrEntry {
                 self.found = found;
                 self.trap = None;
                 let at = frame.base + i.at as usize;
-                push_results(&i.op, slots, at, &mut self.results)
+                push_result(ty, slots, at, &mut self.results)
             }
             Control::Calls { found, .. } => {
                 self.found = found;

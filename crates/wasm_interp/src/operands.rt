@@ -1,6 +1,6 @@
 // The operands and the results of instructions, as a history contains them.
 
-ghost use Rattle.std.specs.Prelude.{◌≡◌, ℕ, ◌+◌, ◌^◌, ◌<◌, ◌≤◌, List, [], ◌∷◌, ◌++◌, length, true, IfOk, OnOk, IsSome, slice_get};
+ghost use Rattle.std.specs.Prelude.{◌≡◌, ℕ, ◌+◌, ◌^◌, ◌<◌, ◌≤◌, List, [], ◌∷◌, ◌++◌, length, true, IfOk, OnOk, IsSome, slice_get, option_to_list};
 ghost use Rattle.wasm_syntax.specs.Opcodes.{load_of, store_of, numeric_shape};
 ghost use Rattle.wasm_flat.specs.Slots as slot_types;
 ghost use Rattle.wasm_flat.specs.Slots.{operands_of_shape, result_of_shape, types_of_access, params_of};
@@ -150,34 +150,39 @@ pub(crate) fn push_operands(
     }
 }
 
-/// Appends the result of an instruction whose first slot is given, if it has one.
-pub(crate) fn push_results(
-    op: &Op,
+/// The type of the result of an instruction, if it has one.
+pub(crate) fn result_of(op: &Op) -> Option<ValType>
+    requires typed { IsTypedOp op.now }
+    ensures { slot_types.result_types op.now ≡ option_to_list result }
+{
+    match op {
+        Op::Select { ty } | Op::LocalGet { ty, .. } => Some(*ty),
+        Op::LocalTee { ty, .. } | Op::GlobalGet { ty, .. } => Some(*ty),
+        Op::Load { op, .. } => Some(load_type(*op)),
+        Op::MemorySize | Op::MemoryGrow => Some(ValType::I32),
+        Op::TableGrow | Op::TableSize => Some(ValType::I32),
+        Op::Const { value } => Some(value.ty),
+        Op::Test { op } | Op::Compare { op } => numeric_result(*op),
+        Op::Unary { op } | Op::Binary { op } => numeric_result(*op),
+        Op::Convert { op } => numeric_result(*op),
+        _ => None,
+    }
+}
+
+/// Appends the result in a slot, if there is one.
+#[inline(always)]
+pub(crate) fn push_result(
+    ty: Option<ValType>,
     slots: &[u64],
     at: usize,
     values: &mut Vec<Val>,
 ) -> Result<(), NoMemory>
-    requires typed { IsTypedOp op.now }
-    requires small { at < 2 ^ 63 }
-    ensures { OnOk result
-        (values.new.items ≡ values.old.items ++ values_at slots.now at (slot_types.result_types op.now)) }
+    requires { at < 2 ^ 63 }
+    ensures { OnOk result (values.new.items ≡ values.old.items ++ values_at slots.now at (option_to_list ty)) }
 {
-    match op {
-        Op::Select { ty } | Op::LocalGet { ty, .. } => push_values(slots, at, &[*ty], values),
-        Op::LocalTee { ty, .. } | Op::GlobalGet { ty, .. } => push_values(
-            slots,
-            at,
-            &[*ty],
-            values,
-        ),
-        Op::Load { op, .. } => push_values(slots, at, &[load_type(*op)], values),
-        Op::MemorySize | Op::MemoryGrow => push_values(slots, at, &[ValType::I32], values),
-        Op::TableGrow | Op::TableSize => push_values(slots, at, &[ValType::I32], values),
-        Op::Const { value } => push_values(slots, at, &[value.ty], values),
-        Op::Test { op } | Op::Compare { op } => push_numeric(*op, slots, at, values),
-        Op::Unary { op } | Op::Binary { op } => push_numeric(*op, slots, at, values),
-        Op::Convert { op } => push_numeric(*op, slots, at, values),
-        _ => Ok(()),
+    match ty {
+        Some(ty) => push_values(slots, at, &[ty], values),
+        None => Ok(()),
     }
 }
 
@@ -191,15 +196,14 @@ fn params_at(flat: &Flat, ty: u32) -> &[ValType]
     }
 }
 
-/// Appends the result of a numeric instruction.
+/// The type of the result of a numeric instruction; there is one.
+#[inline(always)]
 #[tactic(auto, using(crate::proofs::Opcodes::numeric_result))]
-fn push_numeric(opcode: u8, slots: &[u64], at: usize, values: &mut Vec<Val>) -> Result<(), NoMemory>
-    requires integer { is_integer (kind_of opcode) ≡ true }
-    requires small { at < 2 ^ 63 }
-    ensures { OnOk result (values.new.items
-        ≡ values.old.items ++ values_at slots.now at (result_of_shape (numeric_shape opcode))) }
+pub(crate) fn numeric_result(opcode: u8) -> Option<ValType>
+    requires { is_integer (kind_of opcode) ≡ true }
+    ensures { result_of_shape (numeric_shape opcode) ≡ option_to_list result }
 {
-    push_values(slots, at, &[result_type(opcode)], values)
+    Some(result_type(opcode))
 }
 
 /// Appends the operand of a numeric instruction that takes one.
@@ -215,7 +219,13 @@ fn push_one(opcode: u8, slots: &[u64], at: usize, values: &mut Vec<Val>) -> Resu
 
 /// Appends the operands of a numeric instruction that takes two.
 #[tactic(auto, using(crate::proofs::Opcodes::two_operands))]
-fn push_two(opcode: u8, slots: &[u64], at: usize, values: &mut Vec<Val>) -> Result<(), NoMemory>
+#[inline(always)]
+pub(crate) fn push_two(
+    opcode: u8,
+    slots: &[u64],
+    at: usize,
+    values: &mut Vec<Val>,
+) -> Result<(), NoMemory>
     requires two { takes_two (kind_of opcode) ≡ true }
     requires small { at < 2 ^ 63 }
     ensures { OnOk result (values.new.items

@@ -27,12 +27,12 @@ abbrev pub lines_from : (StepResult → Run) → Result StepResult LinkFault →
 lines_from go (Ok initial) = Ok (lines_of (go initial))
 lines_from go (Err fault) = Err fault
 
--- a module's run with foreign functions, after so many steps
+-- a module's run with foreign functions, after a number of steps
 abbrev pub foreign_lines : Module → List Decl → Script → ℕ → Result RunLines LinkFault
 foreign_lines m decls script count =
     lines_from (λ initial. run_in (foreign_world m decls script) all_one initial count) (foreign_start m decls script)
 
--- a module's run without them, after so many steps
+-- a module's run without them, after a number of steps
 abbrev pub own_lines : Module → Script → ℕ → Result RunLines LinkFault
 own_lines m script count =
     lines_from (λ initial. run_from (program_of m script) all_one initial count) (run_start m script)

@@ -35,7 +35,7 @@ abbrev pub pair_lines_from : ModulePair → (StepResult → Run) → Result Step
 pair_lines_from pair go (Ok initial) = Ok (pair_lines_of pair (go initial))
 pair_lines_from pair go (Err fault) = Err fault
 
--- the lines of the run of a pair, after so many steps
+-- the lines of the run of a pair, after a number of steps
 abbrev pub pair_lines : ModulePair → Script → ℕ → Result PairLines LinkFault
 pair_lines pair script count =
     pair_lines_from pair (λ initial. run_in (pair_world pair script) all_one initial count) (pair_start pair script)

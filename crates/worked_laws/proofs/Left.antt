@@ -12,7 +12,7 @@ use Rattle.record_replay_spec.specs.Known.{carried_byte}
 use Rattle.record_replay_spec.specs.Windows.{unless_some}
 use Rattle.record_replay_spec.specs.Needed.{has_bytes}
 use Rattle.record_replay_spec.specs.Unshown.{first_copied}
-use Rattle.tape_laws.specs.Dropped.{resizes_table, IsLeft, AreLeft, IsLeftSegment}
+use Rattle.tape_laws.specs.Dropped.{IsLeft, AreLeft, IsLeftSegment}
 
 -- the observation reads bytes by a copy
 abbrev pub copies : Observation → Bool
@@ -49,14 +49,13 @@ kept window segment ordered nonempty =
         entry = λ at. inl refl;
         global = λ at. inl refl;
         copied = λ at x h. refl;
-        resized = λ h. refl;
       };
     }
 
 -- effects that are all removed, if no copy reads first
 pub none_of : (window : List Observation) (effects : List Effect) → list_any copies window ≡ false
-    → list_any resizes_table window ≡ false → AreLeft window effects []
-none_of window effects uncopied unsized =
+    → AreLeft window effects []
+none_of window effects uncopied =
     record {
       ordered = refl;
       nonempty = refl;
@@ -66,11 +65,7 @@ none_of window effects uncopied unsized =
       entry = λ at. inr refl;
       global = λ at. inr refl;
       copied = λ at x h. absurd (not_copied window uncopied at x h);
-      resized = λ h. absurd (apart (sym h ∙ unsized));
     }
-  where
-    apart : true ≡ false → ⊥
-    apart h = cc
 
 -- the second of two bytes is removed
 pub first_of_two : (window : List Observation) (address a b : ℕ) → list_any copies window ≡ false
@@ -85,7 +80,6 @@ first_of_two window address a b uncopied =
       entry = λ at. inl refl;
       global = λ at. inl refl;
       copied = λ at x h. absurd (not_copied window uncopied at x h);
-      resized = λ h. refl;
     }
   where
     go : (t : Bool) (n : ℕ) → IsLeft (cond t (slice_get (a ∷ b ∷ []) n) None) (cond t (slice_get (a ∷ []) n) None)
@@ -94,10 +88,9 @@ first_of_two window address a b uncopied =
     go true (suc n) = inr refl
 
 -- a table's size is removed, and the entry remains
-pub entry_alone : (window : List Observation) (size index : ℕ) (func : Option ℕ) → list_any copies window ≡ false
-    → list_any resizes_table window ≡ false
+pub entry_alone : (window : List Observation) (size index : ℕ) (func : Option ℕ)
     → AreLeft window (Table size ∷ Entry index func ∷ []) (Entry index func ∷ [])
-entry_alone window size index func uncopied unsized =
+entry_alone window size index func =
     record {
       ordered = refl;
       nonempty = refl;
@@ -107,12 +100,8 @@ entry_alone window size index func uncopied unsized =
       entry = λ at. go (nat_eq index at);
       global = λ at. inl refl;
       copied = λ at x h. refl;
-      resized = λ h. absurd (apart (sym h ∙ unsized));
     }
   where
-    apart : true ≡ false → ⊥
-    apart h = cc
-
     go : (t : Bool) → IsLeft (option_or (option_or None (cond t (Some func) None)) None)
         (option_or None (cond t (Some func) None))
     go true = inl refl
@@ -131,7 +120,6 @@ size_alone window size index func =
       entry = λ at. inr refl;
       global = λ at. inl refl;
       copied = λ at x h. refl;
-      resized = λ h. refl;
     }
 
 -- a segment with effects removed

@@ -17,6 +17,7 @@ use Rattle.wasm_syntax.specs.Validity.{IsValid, IsFuncType, IsGlobal, IsDeclared
 use Rattle.wasm_syntax.specs.ValidityTests.{invalid_at}
 use Rattle.wasm_syntax.specs.Laws.{ValidityIsDecided}
 use Rattle.replay_module_spec.specs.declared.plans.Plan.{Plan}
+use Rattle.replay_module_spec.specs.declared.fragments.Fragment.{Fragment}
 use Rattle.replay_module_spec.specs.Plans.{plan_of}
 use Rattle.replay_module_spec.specs.Functions.{appended_types, start_func}
 use Rattle.replay_module_spec.specs.Fragments.{fragment_of, referred_funcs}
@@ -43,10 +44,10 @@ all_around P xs ys zs h =
     All-append P xs zs (all_before P xs (ys ++ zs) h) (all_after P ys zs (all_after P xs (ys ++ zs) h))
 
 -- a generated type is within the limits
-abbrev few_params : FuncType → Bool
+abbrev pub few_params : FuncType → Bool
 few_params ty = nat_le (length ty.params) MAX_PARAMETERS
 
-abbrev few_locals : Func → Bool
+abbrev pub few_locals : Func → Bool
 few_locals func = nat_le (count_of_locals func) MAX_LOCALS
 
 few_is_few : {X : Type 0} (size : X → ℕ) (most : ℕ) (xs : List X) → list_all (λ x. nat_le (size x) most) xs ≡ true
@@ -70,17 +71,16 @@ start_fits m plan =
 
 -- the other conditions: there is a body for each import, the generated parts are within the limits, and exactly the
 -- functions to which bodies refer are declared
-record FitsBesides (m : Module) (plan : Plan) : Type 0 where
-  params : list_all few_params (fragment_of m plan).types ≡ true
-  locals : list_all few_locals ((fragment_of m plan).bodies ++ (fragment_of m plan).helpers) ≡ true
-  bodies : AllZip (HasImportType m (fragment_of m plan)) (of_kind func_import m.imports) (fragment_of m plan).bodies
-  declared : (fragment_of m plan).declared ≡ referred_funcs (unsupplied_module m (fragment_of m plan)).funcs
+pub record FitsBesides (m : Module) (fragment : Fragment) : Type 0 where
+  pub params : list_all few_params fragment.types ≡ true
+  pub locals : list_all few_locals (fragment.bodies ++ fragment.helpers) ≡ true
+  pub bodies : AllZip (HasImportType m fragment) (of_kind func_import m.imports) fragment.bodies
+  pub declared : fragment.declared ≡ referred_funcs (unsupplied_module m fragment).funcs
 
--- if the replay module is valid and the other conditions hold, the fragment fits
-fits : (m : Module) (plan : Plan) → IsValid (unsupplied_module m (fragment_of m plan)) → FitsBesides m plan
-    → FitsModule m (fragment_of m plan)
-fits m plan valid besides =
-    let fragment = fragment_of m plan in
+-- if the replay module is valid, a helper is exported and the other conditions hold, the fragment fits
+pub fits : (m : Module) (fragment : Fragment) → IsValid (unsupplied_module m fragment) → HasStart m fragment
+    → FitsBesides m fragment → FitsModule m fragment
+fits m fragment valid start besides =
     let whole = unsupplied_module m fragment in
     let few_types = few_is_few (λ (ty : FuncType). length ty.params) MAX_PARAMETERS fragment.types besides.params in
     let few = few_is_few count_of_locals MAX_LOCALS (fragment.bodies ++ fragment.helpers) besides.locals in
@@ -98,7 +98,7 @@ fits m plan valid besides =
           all_after (IsGlobal whole) own fragment.globals
           (all_after (IsGlobal whole) imported (own ++ fragment.globals) valid.outside.globals);
       bodies = besides.bodies;
-      start = start_fits m plan;
+      start = start;
       declared = λ func. (
         subst (λ funcs. Contains funcs func) besides.declared,
         subst (λ funcs. Contains funcs func) (sym besides.declared),
@@ -112,8 +112,9 @@ plan_for c = plan_of (imported_funcs c.original) c.tape
 
 module _ (decided : ValidityIsDecided) where
   fits_case : (c : ReplayCase) → invalid_at (unsupplied_module c.original (fragment_for c.original c.tape)) ≡ None
-      → FitsBesides c.original (plan_for c) → Fits c
-  fits_case c valid besides = fits c.original (plan_for c) ((decided _).1 valid) besides
+      → FitsBesides c.original (fragment_for c.original c.tape) → Fits c
+  fits_case c valid besides =
+      fits c.original (fragment_for c.original c.tape) ((decided _).1 valid) (start_fits c.original (plan_for c)) besides
 
   pub fragments_fit : FragmentsFit
   fragments_fit =

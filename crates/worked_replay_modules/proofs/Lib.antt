@@ -2,4 +2,5 @@ mod Replays
 mod Parts
 mod WrongReplays
 mod Fitting
+mod HandmadePart
 mod Rests

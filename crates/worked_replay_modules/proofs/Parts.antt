@@ -10,7 +10,7 @@ use Rattle.worked_histories.specs.Modules.{nested_call}
 use Rattle.worked_histories.specs.Scripts.{idle}
 use Rattle.worked_replay_modules.specs.Tapes.{counted_tape}
 use Rattle.worked_replay_modules.specs.Tests.{replay_of}
-use Rattle.worked_replay_modules.specs.Parts.{PartsOfReplays, DeclaredSegment, SuppliedGlobal, GreatMaximum, NestedPlan, TwoAnswersFragment, FifteenBytesCode, OtherEffectsCode, DeclaredFuncs, CallsOfGroups, TwoAnswersSize}
+use Rattle.worked_replay_modules.specs.Parts.{PartsOfReplays, DeclaredSegment, SuppliedGlobal, GreatMaximum, NestedPlan, TwoAnswersFragment, FifteenBytesCode, OtherEffectsCode, DeclaredFuncs, CallsOfGroups, ObservedChanges, TwoAnswersSize}
 
 pub nested_plan : NestedPlan
 unfolding digits
@@ -44,6 +44,9 @@ calls_of_groups =
       past_groups = refl;
     }
 
+pub observed_changes : ObservedChanges
+observed_changes = refl
+
 pub two_answers_size : TwoAnswersSize
 unfolding unsigned_bytes u32_bytes signed_bytes s64_bytes i32_bytes i64_bytes func_type_bytes limits_bytes
     global_type_bytes const_bytes instr_bytes custom_bytes import_bytes global_bytes export_bytes elem_bytes data_bytes
@@ -75,5 +78,6 @@ parts_of_replays decided =
       great_maximum = great_maximum;
       many_calls_valid = (decided (replay_of nested_call idle (counted_tape 300))).1 many_calls_valid;
       calls_of_groups = calls_of_groups;
+      observed_changes = observed_changes;
       two_answers_size = two_answers_size;
     }

@@ -4,6 +4,7 @@ pub mod Tests
 pub mod Replays
 pub mod Fitting
 pub mod Parts
+pub mod HandmadePart
 pub mod Rests
 pub mod WorkedReplays
 pub mod WrongReplays

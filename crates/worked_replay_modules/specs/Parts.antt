@@ -1,4 +1,4 @@
--- Plans, code and sizes of the examples.
+-- Plans, code and sizes of the examples, and changes that observations make.
 use Rattle.std.specs.Prelude.{◌≡◌, ℕ, List, [], ◌∷◌, length, Some, None, true, false, nat_le, codes}
 use Rattle.base.specs.declared.opcodes.TheConstants.{I32_ADD, I32_SUB, I32_DIV_U, I32_REM_U, I32_STORE, I32_STORE8, I32_STORE16, I64_STORE}
 use Rattle.wasm_syntax.specs.declared.values.ValType.TheVariants.{I32, I64, F32, F64}
@@ -9,14 +9,16 @@ use Rattle.wasm_syntax.specs.declared.modules.Module.{Module}
 use Rattle.wasm_syntax.specs.Encoding.Shortest.{encoding_of}
 use Rattle.wasm_syntax.specs.Validity.{IsValid}
 use Rattle.host_script.specs.declared.scripts.Script.{Script}
-use Rattle.trace_model.specs.declared.tapes.Effect.TheVariants.{Grow, Table, Entry, Global}
+use Rattle.trace_model.specs.declared.tapes.Effect.TheVariants.{Grow, Table, Bytes, Entry, Global}
 use Rattle.trace_model.specs.declared.tapes.Tape.{Tape}
 use Rattle.trace_model.specs.Weight.{tape_weight}
+use Rattle.record_replay_spec.specs.Observations.{Reads, Reaches, Writes, Resizes, WritesEntry, ResizesTable, WritesGlobal}
 use Rattle.replay_module_spec.specs.Plans.{plan_of}
 use Rattle.replay_module_spec.specs.Segments.{effects_code}
 use Rattle.replay_module_spec.specs.Fragments.{fragment_of}
 use Rattle.replay_module_spec.specs.Merge.{memory_written}
 use Rattle.replay_module_spec.specs.Size.{max_bytes}
+use Rattle.replay_run_spec.specs.Items.{changes_of}
 use Rattle.worked_histories.specs.Build.{i32, value, func_type, limits, global_type, memory_arg, run, func, global}
 use Rattle.worked_histories.specs.Modules.{two_answers, nested_call, table_entry, imported_offset}
 use Rattle.worked_histories.specs.Scripts.{idle, five_seven, gives_global}
@@ -143,6 +145,19 @@ pub record CallsOfGroups : Type 0 where
   pub past_calls : ManyCalls 300 65 trapped
   pub past_groups : ManyCalls 512 14 trapped
 
+-- ---- changes
+
+-- what is written and what grows is changed, and so are the entries that a growth adds with a function; what is read,
+-- what grows by nothing, and a global after the original's two are not
+abbrev pub ObservedChanges : Type 0
+ObservedChanges =
+    changes_of 2
+    (Reaches 8 1 ∷ Reads 0 (1 ∷ []) ∷ Writes 3 (7 ∷ 8 ∷ []) ∷ Resizes 1 1 ∷ Resizes 1 3 ∷ WritesEntry 0 None
+    ∷ ResizesTable 1 1 (Some 9) ∷ ResizesTable 1 2 None ∷ ResizesTable 2 4 (Some 9) ∷ WritesGlobal 1 (i32 5)
+    ∷ WritesGlobal 2 (i32 6) ∷ []) ≡
+    Bytes 3 (7 ∷ 8 ∷ []) ∷ Grow 3 ∷ Entry 0 None ∷ Table 2 ∷ Table 4 ∷ Entry 2 (Some 9) ∷ Entry 3 (Some 9)
+    ∷ Global 1 (i32 5) ∷ []
+
 -- ---- sizes
 
 -- the length of the replay module's shortest encoding, which is within the bound
@@ -166,4 +181,5 @@ pub record PartsOfReplays : Type 0 where
   pub great_maximum : GreatMaximum
   pub many_calls_valid : ManyCallsValid
   pub calls_of_groups : CallsOfGroups
+  pub observed_changes : ObservedChanges
   pub two_answers_size : TwoAnswersSize

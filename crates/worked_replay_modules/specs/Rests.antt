@@ -109,7 +109,7 @@ pub record HasState (c : RestCase) (segments : List DataSeg) : Type 0 where
   pub datas : (state_module c (state_of c)).datas ≡ segments
   pub start : (state_module c (state_of c)).start ≡ None
 
--- a run has so many top-level calls, and so has its tape; from this number on there is no rest and no cut
+-- a run has this number of top-level calls, and so has its tape; from this number on there is no rest and no cut
 pub record HasCalls (c : RestCase) (count : ℕ) : Type 0 where
   pub of_history : from_store (λ store. calls_in (history_from c.original c.script store) 0)
       (opening_store c.original c.script) ≡ Some count

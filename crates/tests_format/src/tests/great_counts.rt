@@ -6,7 +6,7 @@ use std::test::Fail;
 use wasm_decode::decode;
 use wasm_syntax::{Form, Module};
 
-/// The beginnings of 100,000 blocks, one within the other, and so many ends.
+/// The beginnings of 100,000 blocks, one within the other, and 100,000 ends.
 fn nested_blocks(alloc: Global, ends: usize) -> Result<Vec<u8>, Fail> {
     let mut body = Vec::new(alloc);
     append_blocks(&mut body)?;

@@ -132,7 +132,7 @@ fn set_answer(
 #[derive(Clone, Copy)]
 enum Step {
     Write(u32, &'static [u8]),
-    /// Copies so many bytes from 8 to the place at the argument, and so many further on.
+    /// Copies a number of bytes from 8 to the place at the argument, and as many further on.
     Copy(u64, u32, u32),
     Grow(u32),
     GrowTable(u32),

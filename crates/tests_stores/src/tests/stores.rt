@@ -59,7 +59,7 @@ fn grow_table_answer(store: &mut Store, entries: u32, func: Option<u32>) -> Resu
     }
 }
 
-/// The number of so many bytes, None if it is not within the memory.
+/// The number that a few bytes encode, None if they are not within the memory.
 fn number_at(store: &Store, addr: u64, width: u32) -> Option<u64> {
     match width {
         1 => store.load_at(addr, 1).ok(),
@@ -70,7 +70,7 @@ fn number_at(store: &Store, addr: u64, width: u32) -> Option<u64> {
     }
 }
 
-/// Whether a number of so many bytes was written.
+/// Whether a number of this width in bytes was written.
 fn is_stored(store: &mut Store, addr: u64, width: u32, bits: u64) -> bool {
     match width {
         1 => store.store_at(addr, 1, bits).is_ok(),
@@ -83,9 +83,9 @@ fn is_stored(store: &mut Store, addr: u64, width: u32, bits: u64) -> bool {
 /// What is done with a memory, and its result, which is the last part.
 #[derive(Clone, Copy)]
 enum Step {
-    /// Reads a number at an address, of so many bytes.
+    /// Reads a number of this width in bytes at an address.
     Read(u64, u32, Option<u64>),
-    /// Writes a number at an address, of so many bytes.
+    /// Writes a number of this width in bytes at an address.
     Write(u64, u32, u64, bool),
     Put(u64, &'static [u8], Result<(), OutOfBounds>),
     /// Moves bytes to an address from another one.
@@ -298,7 +298,7 @@ const GROWTHS_TO_A_MILLION: &[TableStep] = &[
 /// On a table of 999,999 entries.
 const GROWTHS_BY_ONE: &[TableStep] = &[Append(2, None, 9_999), Append(1, None, 999_999)];
 
-/// The number of the first step with another result, on a table of so many entries.
+/// The number of the first step with another result, on a table with this number of entries.
 fn first_other_of_new_table(
     alloc: Global,
     min: u32,

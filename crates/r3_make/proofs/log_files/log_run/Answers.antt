@@ -1,4 +1,4 @@
-use Rattle.std.proofs.Common.{◌≡◌, ◌⊎◌, inl, inr}
+use Rattle.std.proofs.Common.{◌≡◌, ◌⊎◌, arith, inl, inr}
 use Rattle.std.proofs.lemmas.Result.{IfErr-weaker, IfOk-weaker}
 use Rattle.r3_faults.specs.declared.faults.Fault.TheVariants.{Memory}
 use Rattle.r3_make.specs.LogFiles.{HasModuleLog, HasNoModuleLog, IsLogFile, IsLogRefusal, OfModule, OfModuleLog}
@@ -17,6 +17,19 @@ returns-in_err-checked c =
     c.module_in.ensures.accepted c.in_err-checked.field-0.0 c.in_err-checked.was c.from_residual.result
     c.from_residual.ensures.1 fault refusal)
     (λ text shown. (shown.m, c.module_in.ensures.accepted shown.m shown.is_module))
+
+pub log_file-requires : goal.log_file-requires
+log_file-requires c =
+    let checked = c.in_ok-checked.checked in
+    let taken = c.in_ok-checked.ensures.taken in
+    record {
+      supported = c.in_ok-checked.ensures.supported;
+      short = c.in_ok-checked.ensures.short;
+      bytes = c.in_ok-checked.ensures.bytes;
+      globals =
+          let few = c.globals_within_encoding.ensures c.args.hooked.now checked taken.encoded in
+          omega (arith, few, c.requires);
+    }
 
 pub returns : goal.returns
 returns c =

@@ -1,5 +1,6 @@
-use Rattle.std.proofs.Common.{◌≡◌, Ok, refl, sym, ◌∙◌, ap, subst}
+use Rattle.std.proofs.Common.{◌≡◌, ◌≤◌, ◌^◌, length, Ok, refl, sym, ◌∙◌, ap, subst}
 use Rattle.wasm_syntax.specs.declared.limits.TheConstants.{MAX_TAPE_WEIGHT}
+use Rattle.wasm_syntax.specs.Index.{all_globals}
 use Rattle.host_script.specs.Fits.{Fits}
 use Rattle.history_spec.specs.Instantiation.{instantiate}
 use Rattle.type_safety.specs.Stores.{IsStore}
@@ -9,7 +10,7 @@ use Rattle.host_play.specs.HookedResults.{HasHooksAfter}
 use Rattle.instrumented_run_laws.specs.Laws.{instrumented_of}
 use Rattle.run_recorder.specs.Records.{IsRecordedInto}
 use Rattle.r3_make.proofs.LogTapes.{recorded_for}
-use Rattle.r3_make.proofs.Recordings.{hooked_begins, hooked_store, hooks_after, meter_fits, recorded_same, script_fits}
+use Rattle.r3_make.proofs.Recordings.{hooked_begins, hooked_globals, hooked_store, hooks_after, meter_fits, recorded_same, script_fits}
 use Rattle.r3_make.proofs.recorded_runs.record_play.Goals as goal
 
 pub record_into-requires-clause-hooked : goal.record_into-requires-clause-hooked
@@ -19,6 +20,13 @@ record_into-requires-clause-hooked c =
     subst (λ hooked. HasHooksAfter hooked c.args.inputs.now.imports) (sym is.inputs_are.hooked)
     (subst (HasHooksAfter (instrumented_of run)) (sym is.inputs_are.imports)
     (hooks_after run is.original c.instrumented_import_hooks.ensures))
+
+pub record_into-requires-clause-globals : goal.record_into-requires-clause-globals
+record_into-requires-clause-globals c =
+    let run = c.requires.recordable.0 in
+    let is = c.requires.recordable.1 in
+    subst (λ hooked. length (all_globals hooked) ≤ 2 ^ 32) (sym is.inputs_are.hooked)
+    (hooked_globals run is.original c.instrumented_keep_indices.ensures)
 
 pub record_into-requires-clause-meter : goal.record_into-requires-clause-meter
 record_into-requires-clause-meter c =

@@ -39,6 +39,8 @@ returns-clause-printed c =
       valid = subst IsValid c.module-valid.ensures.same c.module-valid.ensures.valid;
       supported = c.requires.runnable.supported;
       bytes = c.requires.bytes;
-    }) c.requires.runnable.fits c.runs_are_replayed.ensures c.nothing_can_be_dropped.ensures c.in_ok-tape.ensures.light
+    }) c.requires.runnable.fits
+    (c.encoded_have_words.ensures c.args.bytes.now m c.requires.is_module.encoded c.requires.small).0
+    c.runs_are_replayed.ensures c.nothing_can_be_dropped.ensures c.in_ok-tape.ensures.light
     printed.items (is needed.0 needed.1.linked.begins))
     c.replay_bytes.ensures.printed

@@ -3,6 +3,7 @@ use Rattle.std.proofs.Common.{◌∷◌, [], ap, arith}
 use Rattle.flat_steps.specs.FlatStep.{turn}
 use Rattle.wasm_interp.specs.InstrEntries.{as_entry}
 use Rattle.wasm_interp.specs.Steps.{after_control}
+use Rattle.wasm_interp.proofs.Due.{top_function}
 use Rattle.wasm_interp.proofs.Entries.{turned, turn_recorded}
 use Rattle.wasm_interp.proofs.Fits.{act_keeps, on_ok}
 use Rattle.wasm_interp.proofs.Safety.{base_top}
@@ -48,6 +49,11 @@ after_control-requires-clause-small c =
     let base = base_top c.args.frames.now c.in-Some.frame c.in-Some.ensures in
     let same = c.execute_and_record_all.ensures.same in
     omega (arith, room, base, same)
+
+pub after_control-requires-clause-function : goal.after_control-requires-clause-function
+after_control-requires-clause-function c =
+    top_function c.args.flat.now c.in-Some-function_at.func.now c.args.frames.now c.in-Some.frame c.in-Some.ensures
+    c.in-Some-function_at.ensures.there
 
 pub returns-clause-done : goal.returns-clause-done
 returns-clause-done c =

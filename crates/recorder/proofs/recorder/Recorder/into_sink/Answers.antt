@@ -1,13 +1,19 @@
-use Rattle.std.proofs.Common.{None, false, sym, ap, ◌∙◌, subst}
+use Rattle.std.proofs.Common.{None, false, length, sym, ap, ◌∙◌, subst}
+use Rattle.wasm_syntax.specs.Index.{all_globals}
 use Rattle.history_spec.specs.Instantiation.{instantiate, table_length}
 use Rattle.record_replay_spec.specs.Order.{order_start, shape_of}
 use Rattle.record_replay_spec.specs.Logs.{log_start}
-use Rattle.hook_order.specs.Shapes.{parts_of}
+use Rattle.hook_order.specs.Shapes.{HaveIndices, parts_of}
 use Rattle.recorder.specs.Known.{HaveTypes}
 use Rattle.recorder.specs.Recorders.{StandsAt}
 use Rattle.recorder.proofs.Arms.{is_ok}
 use Rattle.recorder.proofs.Openings.{stands_at_start, types_at_start}
 use Rattle.recorder.proofs.recorder.Recorder.into_sink.Goals as goal
+
+pub of-requires : goal.of-requires
+of-requires g c =
+    subst (λ m. HaveIndices c.args.imports (length m.funcs) (all_globals m)) (sym c.module.ensures.same)
+    (record { func = c.requires.funcs; global = c.requires.globals })
 
 pub invariant_of-result : goal.invariant_of-result
 invariant_of-result g c =

@@ -1,0 +1,6 @@
+mod OpenCalls
+mod Shares
+mod Segments
+mod BalancedTapes
+mod OwnedPlans
+mod OwnedSteps
