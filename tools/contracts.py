@@ -6,7 +6,8 @@ import tree
 
 GHOST = re.compile(r"^\s*(?:pub )?ghost use Rattle\.(\w+)\.specs\.([\w.]+?)(?:\.\{([^}]*)\}| as (\w+));", re.M)
 USE = re.compile(r"^\s*(?:pub )?use Rattle\.(\w+)\.specs\.([\w.]+?)(?:\.\{([^}]*)\}| as (\w+))$", re.M)
-FUNCTION = re.compile(r"(?=^\s*(?:pub (?:const )?)?fn )", re.M)
+PUBLIC = re.compile(r"(?=^\s*pub (?:const )?fn )", re.M)
+HEAD = re.compile(r"\s*pub (?:const )?fn (\w+)")
 # The line that begins a function's body, and a line that begins something of a file of definitions.
 BODY = re.compile(r"^\s*\{\}?\s*$", re.M)
 TOPMOST = re.compile(r"(?=^(?:abbrev|unfoldable|pub|record|data|ruleset|use|mod) )", re.M)
@@ -66,10 +67,9 @@ def named_in(definition):
     return there(words_of(blocks[name], {**names, **{own: (place, own) for own in blocks}}, files))
 
 
-def named_by(source, function):
-    """The definitions that the contract of a function of a file of code names."""
+def public_contracts(source, by_file=True):
+    """The public functions of a file of code, each with the definitions that its contract names: those that the file
+    imports, and with `by_file` also those that are named by their file."""
     names, files = imported(source, GHOST)
-    for text in FUNCTION.split(source)[1:]:
-        if re.match(rf"\s*(?:pub )?fn {function}\b", text):
-            return there(words_of(BODY.split(text)[0], names, files))
-    raise SystemExit(f"there is no function {function}")
+    for text in PUBLIC.split(source)[1:]:
+        yield HEAD.match(text).group(1), there(words_of(BODY.split(text)[0], names, files if by_file else {}))
