@@ -63,7 +63,7 @@ count_more false thing things e = absurd (cc e)
 
 -- ---- calls that have begun
 
--- the owner is a call, and has begun if so many calls of each import have
+-- the owner is a call that is among those that have begun, given how many of each import have
 abbrev pub HasBegun : (ℕ → ℕ) → Owner → Type 0
 HasBegun counts Beginning = ⊥
 HasBegun counts (CallOf import number) = number < counts import

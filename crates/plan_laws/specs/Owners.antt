@@ -24,8 +24,8 @@ abbrev pub share_of : {A : Type 0} → Owner → (owners : List Owner) → List 
 share_of {A} owner owners things =
     map (λ (own : Owner × A). own.1) (filter (λ (own : Owner × A). same_owner owner own.0) (zip owners things))
 
--- for each import the calls of it, in the order in which they begin, if so many calls of an import begin and this is
--- what each activation has
+-- what each call of each import has, by import and in the order in which the calls begin, given the number of calls of
+-- an import and what each activation has
 abbrev pub by_calls : {X : Type 0} → (imports : ℕ) → (count : ℕ → ℕ) → (Owner → X) → List (List X)
 by_calls imports count has =
     map (λ import. map (λ number. has (CallOf import number)) (range_with_len 0 (count import)))
