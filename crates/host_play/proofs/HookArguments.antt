@@ -1,33 +1,50 @@
 -- The arguments of a hook's call, read one by one.
-use Rattle.std.proofs.Common.{◌≡◌, ℕ, zero, suc, ◌+◌, ◌≤◌, ◌<◌, List, [], ◌∷◌, length, take, Option, Some, slice_get, slice_set, refl, sym, ap, ◌∙◌, arith, ◌⊎◌, inl, inr}
-use Rattle.base.proofs.Booleans.{below_cases}
-use Rattle.base.proofs.Lists.{set_there}
+use Rattle.std.proofs.Common.{◌≡◌, List, [], ◌∷◌, length, Some, refl, sym, ap, ◌∙◌, subst, slice_get, arith}
+use Rattle.std.specs.Prelude.{Result, ⊤}
+use Rattle.wasm_syntax.specs.declared.values.Val.{Val}
+use Rattle.history_spec.specs.Store.{Store}
+use Rattle.record_replay_spec.specs.declared.hooks.Hook.{Hook}
+use Rattle.hook_names.specs.Steps.{Steps}
+use Rattle.hook_names.specs.declared.hooks.HookFault.{HookFault}
 
-set_later : {A : Type 0} (xs : List A) (i j : ℕ) (x : A) → j < i → slice_get (slice_set xs i x) j ≡ slice_get xs j
-set_later [] i j x before = refl
-set_later (y ∷ xs) zero j x before = absurd (omega (arith, before))
-set_later (y ∷ xs) (suc i) zero x before = refl
-set_later (y ∷ xs) (suc i) (suc j) x before = set_later xs i j x (omega (arith, before))
+module _ {A : Type 0} where
+  pub none_read : (args : List A) → length args ≡ 0 → args ≡ []
+  none_read [] none = refl
+  none_read (x ∷ xs) none = absurd (omega (arith, none))
 
--- one more item is the wanted one
-pub one_more_read : {A : Type 0} (want : ℕ → Option A) (xs : List A) (i : ℕ) (x : A) → i < length xs → want i ≡ Some x
-    → ((j : ℕ) → j < i → want j ≡ slice_get xs j)
-    → (j : ℕ) → j < i + 1 → want j ≡ slice_get (slice_set xs i x) j
-one_more_read want xs i x there is so_far j below = go (below_cases j i (omega (arith, below)))
-  where
-    go : (j < i) ⊎ (j ≡ i) → want j ≡ slice_get (slice_set xs i x) j
-    go (inl before) = so_far j before ∙ sym (set_later xs i j x before)
-    go (inr here) = ap want here ∙ is ∙ sym (set_there xs i x there) ∙ ap (slice_get (slice_set xs i x)) (sym here)
+  one_more : (x a : A) (xs later : List A) → Some x ≡ Some a → xs ≡ later → x ∷ xs ≡ a ∷ later
+  one_more x a xs later first rest =
+      let same : x ≡ a = cc in
+      ap (λ z. z ∷ xs) same ∙ ap (λ zs. a ∷ zs) rest
 
--- items that are the first ones of a list
-pub first_items : {A : Type 0} (xs ys : List A) (count : ℕ) → length ys ≡ count → count ≤ length xs
-    → ((i : ℕ) → i < count → slice_get xs i ≡ slice_get ys i) → take count xs ≡ ys
-first_items xs [] zero len within same = refl
-first_items xs [] (suc count) len within same = absurd (omega (arith, len))
-first_items xs (y ∷ ys) zero len within same = absurd (omega (arith, len))
-first_items [] (y ∷ ys) (suc count) len within same = absurd (omega (arith, within))
-first_items (x ∷ xs) (y ∷ ys) (suc count) len within same =
-    let first : Some x ≡ Some y = same 0 (omega arith) in
-    let is : x ≡ y = cc in
-    let rest : take count xs ≡ ys = first_items xs ys count (omega (arith, len)) (omega (arith, within)) (λ i below. same (suc i) (omega (arith, below))) in
-    ap (λ z. z ∷ take count xs) is ∙ ap (λ zs. y ∷ zs) rest
+  pub one_read : (args : List A) (a : A) → length args ≡ 1 → slice_get args 0 ≡ Some a → args ≡ a ∷ []
+  one_read [] a one first = absurd (omega (arith, one))
+  one_read (x ∷ xs) a one first = one_more x a xs [] first (none_read xs (omega (arith, one)))
+
+  pub two_read : (args : List A) (a b : A) → length args ≡ 2 → slice_get args 0 ≡ Some a → slice_get args 1 ≡ Some b
+      → args ≡ a ∷ b ∷ []
+  two_read [] a b two first second = absurd (omega (arith, two))
+  two_read (x ∷ xs) a b two first second =
+      one_more x a xs (b ∷ []) first (one_read xs b (omega (arith, two)) second)
+
+  pub three_read : (args : List A) (a b c : A) → length args ≡ 3 → slice_get args 0 ≡ Some a
+      → slice_get args 1 ≡ Some b → slice_get args 2 ≡ Some c → args ≡ a ∷ b ∷ c ∷ []
+  three_read [] a b c three first second third = absurd (omega (arith, three))
+  three_read (x ∷ xs) a b c three first second third =
+      one_more x a xs (b ∷ c ∷ []) first (two_read xs b c (omega (arith, three)) second third)
+
+  pub four_read : (args : List A) (a b c d : A) → length args ≡ 4 → slice_get args 0 ≡ Some a
+      → slice_get args 1 ≡ Some b → slice_get args 2 ≡ Some c → slice_get args 3 ≡ Some d
+      → args ≡ a ∷ b ∷ c ∷ d ∷ []
+  four_read [] a b c d four first second third fourth = absurd (omega (arith, four))
+  four_read (x ∷ xs) a b c d four first second third fourth =
+      one_more x a xs (b ∷ c ∷ d ∷ []) first (three_read xs b c d (omega (arith, four)) second third fourth)
+
+-- a step by the arguments that were read, with the view of the store
+pub step_read : {H : Type 0} (is_step : Steps H) (before after : H) (kind : Hook) (args found : List Val)
+    (store view : Store) (answer : Result ⊤ HookFault) → args ≡ found → view ≡ store
+    → is_step before (record { kind = kind; args = found; view = view }) answer after
+    → is_step before (record { kind = kind; args = args; view = store }) answer after
+step_read is_step before after kind args found store view answer read seen taken =
+    subst (λ values. is_step before (record { kind = kind; args = values; view = store }) answer after) (sym read)
+    (subst (λ seen. is_step before (record { kind = kind; args = found; view = seen }) answer after) seen taken)

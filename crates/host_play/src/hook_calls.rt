@@ -1,17 +1,16 @@
 // Calls of hooks: what is passed to the hooks.
 
-ghost use Rattle.std.specs.Prelude.{◌≡◌, ℕ, ◌-◌, ◌<◌, ◌≤◌, List, Some, length, slice_get};
+ghost use Rattle.std.specs.Prelude.{◌≡◌, ◌-◌, ◌<◌, ◌≤◌, List, Some, length, slice_get};
 ghost use Rattle.wasm_syntax.specs.declared.values.Val as vals;
 ghost use Rattle.hook_names.specs.Steps.{IsRun};
 ghost use Rattle.record_replay_spec.specs.Hooks.{hooks as all_hooks, hook_count, hook_params};
 ghost use Rattle.record_replay_spec.specs.HookedRuns.{call_of_hook};
-ghost use Rattle.wasm_interp.specs.Frames.{argument_of};
-ghost use Rattle.host_play.specs.HooksSoFar.{AreArguments, AwaitsCall, HasArguments};
+ghost use Rattle.host_play.specs.HooksSoFar.{AreArguments, AwaitsCall};
 
 use hook_names::{HOOKS, HookFault, Hooks, View};
 use record_replay_spec::Hook;
 use wasm_interp::Machine;
-use wasm_syntax::{Val, ValType};
+use wasm_syntax::Val;
 
 /// A hook by its place among the hooks.
 fn hook_at(place: u32) -> Hook
@@ -35,22 +34,15 @@ fn argument_count(kind: Hook) -> u32
     }
 }
 
-/// The first arguments of the call of an import at which the machine waits.
-fn arguments(machine: &Machine, count: u32) -> [Val; 4]
-    requires few { count ≤ 4 }
-    requires waits { (args : List vals.Val) × HasArguments machine.now args × (length args ≡ count) }
-    ensures each { (number : ℕ) → number < count
-        → argument_of machine.now.flat machine.now.frames machine.now.slots number ≡ slice_get result number }
-    ensures room { length result ≡ 4 }
+/// An argument of the call of a hook at which the machine waits.
+#[inline(always)]
+fn argument(machine: &Machine, kind: Hook, number: u32) -> Val
+    requires waits { (args : List vals.Val) × AreArguments machine.now kind args }
+    requires there { number < length (hook_params kind) }
+    ensures { (args : List vals.Val) → AreArguments machine.now kind args → slice_get args number ≡ Some result }
 {
-    let mut args = [Val {
-        ty: ValType::I32,
-        bits: 0,
-    }; 4];
-    'numbers: for number in 0..count {
-        args[number as usize] = machine.argument(number);
-    }
-    args
+    let _kind = kind;
+    machine.argument(number)
 }
 
 /// Calls a hook with the arguments of the call of an import at which the machine waits, and with a view of its store.
@@ -59,9 +51,36 @@ fn call_hook<H: Hooks>(hooks: &mut H, machine: &Machine, kind: Hook) -> Result<(
     ensures { (args : List vals.Val) → AreArguments machine.now kind args
         → H.is_step hooks.old (record { kind = kind; args = args; view = machine.now.store }) result hooks.new }
 {
-    let count = argument_count(kind);
-    let args = arguments(machine, count);
-    hooks.hook(kind, &args[..count as usize], &View::of(machine.store()))
+    let view = View::of(machine.store());
+    match argument_count(kind) {
+        0 => hooks.hook(kind, &[], &view),
+        1 => hooks.hook(kind, &[argument(machine, kind, 0)], &view),
+        2 => hooks.hook(
+            kind,
+            &[argument(machine, kind, 0), argument(machine, kind, 1)],
+            &view,
+        ),
+        3 => hooks.hook(
+            kind,
+            &[
+                argument(machine, kind, 0),
+                argument(machine, kind, 1),
+                argument(machine, kind, 2),
+            ],
+            &view,
+        ),
+        4 => hooks.hook(
+            kind,
+            &[
+                argument(machine, kind, 0),
+                argument(machine, kind, 1),
+                argument(machine, kind, 2),
+                argument(machine, kind, 3),
+            ],
+            &view,
+        ),
+        _ => unreachable!(),
+    }
 }
 
 /// The hooks take the call of an import at which the machine waits, if it is a hook's: an import past the

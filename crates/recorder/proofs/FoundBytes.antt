@@ -11,6 +11,7 @@ use Rattle.trace_model.proofs.SinkLemmas.{took_none, took_both, took_same}
 use Rattle.record_replay_spec.specs.Observations.{Reads, Writes}
 use Rattle.record_replay_spec.specs.Logs.{differing_runs, all_observed_events, log_after}
 use Rattle.shadow_memory.specs.Shadow.{Shadow, byte_among, HasTaken}
+use Rattle.shadow_memory.specs.Runs.{AreKnown}
 use Rattle.shadow_memory.specs.declared.runs.Difference.{Difference}
 use Rattle.shadow_memory.proofs.WrittenBytes.{among_there, among_below, among_past, Among, Below, There, Past, where_among}
 use Rattle.recorder.specs.Known.{ReportsMemory}
@@ -63,6 +64,22 @@ module _ (address : ℕ) (bytes : List ℕ) (cut : ℕ) (within : cut ≤ length
           ∙ ap (slice_index bytes) e
           ∙ sym (ap or_old (among_there address bytes at from to))
 
+-- bytes that are known are taken without a change
+pub taken_known : (memory : Shadow) (address : ℕ) (bytes : List ℕ) → AreKnown memory.bytes address bytes
+    → HasTaken memory address bytes memory
+taken_known memory address bytes known =
+    record { byte = λ at. go at (where_among address bytes at); known = refl; noticed = refl; frozen = refl }
+  where
+    go : (at : ℕ) → Among address bytes at
+        → slice_index memory.bytes at ≡ unwrap_or (byte_among address bytes at) (slice_index memory.bytes at)
+    go at (Below below) = ap (λ o. unwrap_or o (slice_index memory.bytes at)) (sym (among_below address bytes at below))
+    go at (Past past) = ap (λ o. unwrap_or o (slice_index memory.bytes at)) (sym (among_past address bytes at past))
+    go at (There from to) =
+        let e : address + (at - address) ≡ at = omega (arith, from) in
+        sym (ap (slice_index memory.bytes) e)
+        ∙ eqb-true _ _ (known (at - address) (omega (arith, from, to)))
+        ∙ ap (λ o. unwrap_or o (slice_index memory.bytes at)) (sym (among_there address bytes at from to))
+
 -- ---- a run, and what comes after it
 
 module _ {S : Type 0} (has_taken : S → S → List Event → Type 0) where
@@ -84,6 +101,19 @@ module _ {S : Type 0} (has_taken : S → S → List Event → Type 0) where
         },
         took_same has_taken sink sink' [] (all_observed_events n state (Reads address bytes ∷ []))
             (sym (append-nil (differing_runs state.known.byte address bytes) ∙ none)) found.reported,
+      )
+
+  -- all bytes are known, so nothing is done
+  pub finds_known : (memory : Shadow) (sink : S) (address : ℕ) (bytes : List ℕ)
+      → AreKnown memory.bytes address bytes
+      → ReportsMemory has_taken memory sink (Reads address bytes ∷ []) memory sink
+  finds_known memory sink address bytes known =
+      finds_nothing memory sink address bytes memory sink (
+      record {
+        known = known;
+        taken = taken_known memory address bytes known;
+        reported = took_none has_taken sink;
+      }
       )
 
   pub finds_then : (before : Shadow) (sink : S) (address : ℕ) (bytes : List ℕ) (run : Difference) (next : Shadow)

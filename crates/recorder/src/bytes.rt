@@ -66,8 +66,32 @@ fn find_run<S: EventSink>(
 ///
 /// # Errors
 /// `NoMemory` if an allocation failed.
-#[inline]
+#[inline(always)]
 pub(crate) fn find_bytes<S: EventSink>(
+    alloc: Global,
+    memory: &mut ShadowMemory,
+    sink: &mut S,
+    addr: u64,
+    bytes: &[u8],
+) -> Result<(), NoMemory>
+    requires { addr + length bytes.now ≤ u32.MAX }
+    ensures reports { OnOk result
+        (ReportsMemory S.has_taken memory.old sink.old (Reads addr bytes.now ∷ []) memory.new sink.new) }
+    ensures frozen { memory.new.frozen ≡ memory.old.frozen }
+{
+    if memory.knows(addr, bytes) {
+        return Ok(());
+    }
+    find_runs(alloc, memory, sink, addr, bytes)
+}
+
+/// Does what `find_bytes` does, by looking for each run.
+///
+/// # Errors
+/// `NoMemory` if an allocation failed.
+#[cold]
+#[inline(never)]
+fn find_runs<S: EventSink>(
     alloc: Global,
     memory: &mut ShadowMemory,
     sink: &mut S,

@@ -10,7 +10,7 @@ use Rattle.std.proofs.lemmas.List.Elements.{All-append, All-cons, All-head, All-
 use Rattle.page_arena.specs.declared.TheConstants.{PAGE_LENGTH}
 use Rattle.page_arena.specs.declared.PageId.{PageId}
 use Rattle.page_arena.specs.Pages.{page_at}
-use Rattle.shadow_memory.specs.KnownBytes.{bytes_of_place, bytes_of_places, kept_of, page_of, AreCopies, AreExtended, AreFrozen, AreKept, AreMore, IsBetween, IsCopy, Kept}
+use Rattle.shadow_memory.specs.KnownBytes.{bytes_of_place, bytes_of_places, kept_of, page_of, AreCopies, AreFrozen, AreKept, AreMore, IsBetween, IsCopy, Kept}
 
 pub on_err : {A B : Type 0} (result : Result A B) {X : Type 0} → X → OnErr result X
 on_err (Ok done) x = tt

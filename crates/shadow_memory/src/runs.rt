@@ -1,9 +1,9 @@
 // Runs of bytes: compared with the known ones, and taken, page by page.
 
-ghost use Rattle.std.specs.Prelude.{◌≡◌, ℕ, ◌+◌, ◌*◌, ◌/◌, ◌%◌, ◌<◌, ◌≤◌, [], ◌∷◌, length, take, true, IfOk, OnOk, OnErr, slice_index};
+ghost use Rattle.std.specs.Prelude.{◌≡◌, ◌↔◌, ℕ, ◌+◌, ◌*◌, ◌/◌, ◌%◌, ◌<◌, ◌≤◌, [], ◌∷◌, length, take, true, IsTrue, IfOk, OnOk, OnErr, slice_index};
 ghost use Rattle.page_arena.specs.declared.TheConstants.{PAGE_LENGTH};
 ghost use Rattle.shadow_memory.specs.KnownBytes.{is_touched};
-ghost use Rattle.shadow_memory.specs.Runs.{compared, is_alike, is_known, IsComparison, IsLeadingCount};
+ghost use Rattle.shadow_memory.specs.Runs.{AreKnown, compared, is_alike, is_known, IsComparison, IsLeadingCount};
 ghost use Rattle.shadow_memory.specs.Shadow.{AreSame, AreWritten};
 
 use crate::known_bytes::KeptBytes;
@@ -34,7 +34,8 @@ fn leading_count(known: &[u8], bytes: &[u8], alike: bool) -> usize
     requires { length known.now ≡ length bytes.now }
     ensures { IsLeadingCount (is_alike known.now bytes.now) alike (length bytes.now) result }
 {
-    if alike && known == bytes {
+    // a comparison by the library pays for long runs alone
+    if alike && bytes.len() > 8 && known == bytes {
         return bytes.len();
     }
     'bytes: for k in 0..bytes.len() {
@@ -43,6 +44,31 @@ fn leading_count(known: &[u8], bytes: &[u8], alike: bool) -> usize
         }
     }
     bytes.len()
+}
+
+/// The number of bytes of a run within one page, from the first on, that are all the known ones, or all different.
+#[inline(always)]
+fn leading_in_page(kept: &KeptBytes, addr: usize, bytes: &[u8], known: bool) -> usize
+    requires { addr % PAGE_LENGTH + length bytes.now ≤ PAGE_LENGTH }
+    ensures { IsLeadingCount (is_known kept.now.bytes addr bytes.now) known (length bytes.now) result }
+{
+    let offset = addr % PAGE_LENGTH;
+    let there = &kept.page(addr / PAGE_LENGTH)[offset..offset + bytes.len()];
+    leading_count(there, bytes, known)
+}
+
+/// Whether all bytes of a run are the known ones.
+#[inline(always)]
+pub(crate) fn are_known(kept: &KeptBytes, addr: usize, bytes: &[u8]) -> bool
+    requires { addr + length bytes.now ≤ usize.MAX }
+    ensures { IsTrue result ↔ AreKnown kept.now.bytes addr bytes.now }
+{
+    let count = if bytes.len() <= PAGE_LENGTH - addr % PAGE_LENGTH {
+        leading_in_page(kept, addr, bytes, true)
+    } else {
+        known_count(kept, addr, bytes, true)
+    };
+    count == bytes.len()
 }
 
 /// The byte that is known at an address.

@@ -5,11 +5,13 @@ ghost use Rattle.history_spec.specs.Store.{Store};
 ghost use Rattle.history_spec.specs.Instantiation as history;
 ghost use Rattle.shadow_memory.specs.Opening.{IsOpening};
 ghost use Rattle.shadow_memory.specs.Shadow.{known_byte, to_freeze, HasTaken, IsBlock, IsUnchanged};
-ghost use Rattle.shadow_memory.specs.Runs.{compared, IsComparison};
+ghost use Rattle.shadow_memory.specs.Runs.{AreKnown, compared, IsComparison};
 
 use crate::known_bytes::KeptBytes;
 use crate::opening::opening;
-use crate::runs::{Difference, byte_at, frozen_byte_at, take_byte, take_difference, take_run};
+use crate::runs::{
+    Difference, are_known, byte_at, frozen_byte_at, take_byte, take_difference, take_run,
+};
 use base::NoMemory;
 use host_script::Supply;
 use std::alloc::Global;
@@ -71,6 +73,15 @@ impl ShadowMemory {
         byte_at(&self.bytes, addr as usize) != byte
     }
 
+    /// Whether all bytes of a run are the known ones.
+    #[inline(always)]
+    pub fn knows(&self, addr: u64, bytes: &[u8]) -> bool
+        requires { addr + length bytes.now ≤ u64.MAX }
+        ensures { IsTrue result ↔ AreKnown self.now.bytes addr bytes.now }
+    {
+        are_known(&self.bytes, addr as usize, bytes)
+    }
+
     /// Takes a byte as the known one at an address.
     ///
     /// # Errors
@@ -87,7 +98,7 @@ impl ShadowMemory {
     ///
     /// # Errors
     /// `NoMemory` if an allocation failed; what is known is as before then.
-    #[inline]
+    #[inline(always)]
     pub fn take_run(&mut self, addr: u64, bytes: &[u8]) -> Result<(), NoMemory>
         requires { addr + length bytes.now ≤ u64.MAX }
         ensures ok { OnOk result (HasTaken self.old addr bytes.now self.new) }

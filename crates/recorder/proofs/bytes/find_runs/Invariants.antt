@@ -2,7 +2,7 @@ use Rattle.std.proofs.Common.{◌≡◌, ◌+◌, ◌-◌, ◌≤◌, [], ◌∷
 use Rattle.record_replay_spec.specs.Observations.{Reads}
 use Rattle.shadow_memory.specs.Shadow.{Shadow}
 use Rattle.recorder.specs.Known.{ReportsMemory}
-use Rattle.recorder.proofs.bytes.find_bytes.Given as goal
+use Rattle.recorder.proofs.bytes.find_runs.Given as goal
 
 -- the rest of the bytes leads to what all bytes lead to
 abbrev pub invariant-runs : goal.invariant-runs
