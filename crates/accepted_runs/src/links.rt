@@ -5,6 +5,7 @@ ghost use Rattle.wasm_syntax.specs.declared.modules.Module.{Module};
 ghost use Rattle.wasm_syntax.specs.Profile.{IsSupported};
 ghost use Rattle.host_script.specs.declared.scripts.LinkFault.TheVariants.{Memory as NoMemoryLeft};
 ghost use Rattle.host_script.specs.declared.scripts.Script as scripts;
+ghost use Rattle.host_script.specs.declared.scripts.Supply.{Supply as Supplied};
 ghost use Rattle.host_script.specs.Fits.{Fits};
 ghost use Rattle.history_spec.specs.Run.{run_start, start_in_store};
 ghost use Rattle.history_spec.specs.Store.{Store as StoreValue};
@@ -29,6 +30,7 @@ use wasm_validate::Checked;
 pub fn start_store(alloc: Global, checked: &Checked, script: &Script) -> Result<Store, Fault>
     requires supported { IsSupported checked.now }
     requires fits { Fits checked.now script.now }
+    ensures linked { IfOk result (λ store. (supply : Supplied) × IsLinked checked.now script.now supply store) }
     ensures typed { IfOk result (λ store. HasBytes checked.now → IsStore checked.now store) }
     ensures opened { IfOk result (λ store.
         run_start checked.now script.now ≡ Ok (start_in_store checked.now script.now store)) }

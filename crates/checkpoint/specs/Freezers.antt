@@ -1,5 +1,5 @@
 -- A freezer: its state and its steps.
-use Rattle.std.specs.Prelude.{◌≡◌, ℕ, ◌+◌, ◌-◌, ◌^◌, cond, min, nat_eq, Bool, ◌&&◌, List, Result, Ok, Err, ⊤, ◌⊎◌}
+use Rattle.std.specs.Prelude.{◌≡◌, ℕ, ◌+◌, ◌-◌, ◌^◌, cond, min, nat_eq, Bool, true, ◌&&◌, List, Result, Ok, Err, ⊤, ◌⊎◌}
 use Rattle.trace_model.specs.declared.events.Event.{Event}
 use Rattle.hook_names.specs.declared.hooks.HookFault.{HookFault}
 use Rattle.hook_names.specs.declared.hooks.HookFault.TheVariants.{Memory}
@@ -18,11 +18,13 @@ pub record Freezing (S : Type 0) : Type 0 where
 abbrev pub enters_top : {S : Type 0} → Recorded S → HookCall → Bool
 enters_top recorder call = is_enter call.kind && none_open recorder.recording.order.frames
 
+-- the hook call reports the top-level call that is looked for
+abbrev pub enters_looked_for : {S : Type 0} → Freezing S → HookCall → Bool
+enters_looked_for before call = enters_top before.recorder call && nat_eq before.calls before.number
+
 -- the recorder that takes a hook call: frozen, if the call reports the top-level call that is looked for
 abbrev pub recorder_at : {S : Type 0} → Freezing S → HookCall → Recorded S
-recorder_at before call =
-    cond (enters_top before.recorder call && nat_eq before.calls before.number) (after_freeze before.recorder)
-    before.recorder
+recorder_at before call = cond (enters_looked_for before call) (after_freeze before.recorder) before.recorder
 
 -- the number of top-level calls after one more; it stays at the greatest number of 64 bits
 abbrev pub one_more : ℕ → ℕ
@@ -41,8 +43,10 @@ pub record IsPassed {S : Type 0} (has_taken : S → S → List Event → Type 0)
   pub number : after.number ≡ before.number
   pub calls : after.calls ≡ calls_after before call answer
 
--- a step of a freezer: the hook call is passed on; or there was no memory to freeze the recorder, and nothing changes
+-- a step of a freezer: the hook call is passed on; or it reports the top-level call that is looked for, there was no
+-- memory to freeze the recorder, and nothing changes
 abbrev pub IsFreezerStep : {S : Type 0} → (has_taken : S → S → List Event → Type 0) → Freezing S → HookCall
     → Result ⊤ HookFault → Freezing S → Type 0
 IsFreezerStep has_taken before call answer after =
-    IsPassed has_taken before call answer after ⊎ ((answer ≡ Err Memory) × (after ≡ before))
+    IsPassed has_taken before call answer after
+    ⊎ ((answer ≡ Err Memory) × (after ≡ before) × (enters_looked_for before call ≡ true))

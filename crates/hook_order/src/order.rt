@@ -1,6 +1,6 @@
 // The order of hook calls. Each call is checked first, which changes nothing, and then taken.
 
-ghost use Rattle.std.specs.Prelude.{◌≡◌, ◌↔◌, [], IsTrue, OnOk};
+ghost use Rattle.std.specs.Prelude.{◌≡◌, ◌↔◌, [], IsTrue, OnOk, OnErr};
 ghost use Rattle.record_replay_spec.specs.Order.{may_report};
 ghost use Rattle.hook_order.specs.Frames.{frame_of};
 ghost use Rattle.hook_order.specs.Orders.{parts_at_start, parts_called, parts_closed, parts_entered, parts_pending, state_of};
@@ -82,10 +82,11 @@ impl Order {
     /// Takes a value that is passed for the next call.
     ///
     /// # Errors
-    /// `NoMemory` if an allocation failed.
+    /// `NoMemory` if an allocation failed; nothing has changed then.
     #[inline]
     pub fn report(&mut self, value: Val) -> Result<(), NoMemory>
         ensures ok { OnOk result (self.new ≡ parts_pending self.old value) }
+        ensures err { OnErr result (self.new ≡ self.old) }
         ensures shape { self.new.shape ≡ self.old.shape }
     {
         self.pending.push(value)?;
@@ -95,7 +96,7 @@ impl Order {
     /// Enters a function.
     ///
     /// # Errors
-    /// `NoMemory` if an allocation failed.
+    /// `NoMemory` if an allocation failed; which call may come next is lost then.
     #[inline]
     pub fn enter(&mut self, func: u32) -> Result<(), NoMemory>
         ensures ok { OnOk result (self.new ≡ parts_entered self.old func) }
@@ -108,7 +109,7 @@ impl Order {
     /// Begins a call of a function, or of an empty table entry.
     ///
     /// # Errors
-    /// `NoMemory` if an allocation failed.
+    /// `NoMemory` if an allocation failed; which call may come next is lost then.
     #[inline]
     pub fn call(&mut self, direct: bool, callee: Option<u32>) -> Result<(), NoMemory>
         ensures ok { OnOk result (self.new ≡ parts_called self.old direct callee) }

@@ -59,6 +59,12 @@ AreAddresses args (GrowTable by) at = Unit {0}
 AreAddresses args (Call func given) at = Unit {0}
 AreAddresses args (CallTable index given) at = Unit {0}
 
+-- the range that an action does not have begins at 0
+abbrev pub OthersAreZero : Action → Addresses → Type 0
+OthersAreZero (Write to bytes) at = at.source ≡ 0
+OthersAreZero (Copy to source count) at = Unit {0}
+OthersAreZero other at = (at.to ≡ 0) × (at.source ≡ 0)
+
 -- a defined function in an entry of the table has a type
 abbrev pub IsTyped : Functions → Option (Option ℕ) → Type 0
 IsTyped functions None = Unit {0}

@@ -2,13 +2,12 @@
 
 ghost use Rattle.std.specs.Prelude.{◌≡◌, Some};
 ghost use Rattle.history_spec.specs.Action.{address_of};
-ghost use Rattle.host_actions.specs.Ready.{AreAddresses, AreThere, IsThere};
+ghost use Rattle.host_actions.specs.Ready.{AreAddresses, AreThere, IsThere, OthersAreZero};
 
 use host_script::{Action, Address};
 use wasm_syntax::Val;
 
-/// Where the ranges of an action begin, in bytes: the one that it writes, and the one that it
-/// copies. Each is 0 if the action has no such range.
+/// Where the ranges of an action begin, in bytes: the one that it writes, and the one that it copies.
 #[derive(Clone, Copy, PartialEq, Eq, Debug)]
 pub struct Addresses {
     pub to: u64,
@@ -17,10 +16,12 @@ pub struct Addresses {
 
 impl Addresses {
     /// The addresses of an action, given the arguments of the call that is answered; the host's own work
-    /// has no arguments. Each argument that is named exists and has 32 bits.
+    /// has no arguments. Each argument that is named exists and has 32 bits. An address is 0 if the action has no
+    /// such range.
     pub fn of(action: &Action, args: &[Val]) -> Addresses
         requires { AreThere args.now action.now }
-        ensures { AreAddresses args.now action.now result }
+        ensures addresses { AreAddresses args.now action.now result }
+        ensures others { OthersAreZero action.now result }
     {
         match action {
             Action::Write { to, .. } => Addresses {

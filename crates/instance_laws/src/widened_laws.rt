@@ -54,8 +54,8 @@ pub fn widened_outcomes_follow()
     widened_runs_follow();
 }
 
-/// For each declared function a widened module has a type and an import more; its other lists are as long as those of
-/// the original.
+/// For each declared function a widened module has a type, an import and a function more; the runs of locals and the
+/// instructions of each defined function are as many as in the original.
 pub fn widened_have_lists_within()
     ensures { WidenedHaveListsWithin }
 {}

@@ -16,7 +16,7 @@ CountsAreWithin =
     → count_in pair space
     ≤ length pair.left.imports + length pair.right.imports + defined_in space pair.left + defined_in space pair.right
 
--- no list of a linked module has more items than those of both modules
+-- a linked module has no more types, imports, functions, parameters, runs of locals and instructions than both modules
 abbrev pub LinkedHaveListsWithin : Type 0
 LinkedHaveListsWithin =
     (pair : ModulePair) (left right : ℕ) → HasListsWithin left pair.left → HasListsWithin right pair.right

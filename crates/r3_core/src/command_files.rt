@@ -1,6 +1,6 @@
 // The files of a command.
 
-ghost use Rattle.std.specs.Prelude.{◌≡◌, ◌≤◌, ◌⊎◌, ℕ, None, All, [], ◌∷◌, length, zip, IfOk, IfErr, OnOk, vec_len};
+ghost use Rattle.std.specs.Prelude.{◌≡◌, ◌≤◌, ◌⊎◌, ℕ, None, All, List, [], ◌∷◌, length, zip, IfOk, IfErr, OnOk, vec_len};
 ghost use Rattle.std.specs.Option.{ForSome};
 ghost use Rattle.wasm_syntax.specs.declared.limits.TheConstants.{MAX_REPLAY_BYTES};
 ghost use Rattle.r3_core.specs.Words.{texts};
@@ -29,6 +29,7 @@ pub(crate) fn load_files<F: Files>(
     ensures taken_never_falls { NoneFell (F.taken files.old) (F.taken files.new) }
 
     ensures unread { length names.now ≡ 0 → files.new ≡ files.old }
+    ensures failed_none { OnOk result ((other : List ℕ) → F.faults files.new other ≡ F.faults files.old other) }
     ensures all { IfOk result (λ loaded. vec_len loaded ≡ length names.now) }
     ensures bytes { IfOk result (λ loaded.
         AreBytesOf (F.contents files.old) (texts names.now) (all_bytes loaded.items)) }
@@ -62,6 +63,7 @@ fn load_file<F: Files>(
 
     ensures bytes { IfOk result (λ bytes. ForSome (F.contents files.old)
         (λ known. bytes.items ≡ file_bytes known name.now)) }
+    ensures failed_none { OnOk result ((other : List ℕ) → F.faults files.new other ≡ F.faults files.old other) }
     ensures short { IfOk result (λ bytes. length bytes.items ≤ limit) }
     ensures within_limit { OnOk result (ForSome (F.contents files.old)
         (λ known. first_longer known ((name.now, limit) ∷ []) ≡ None)) }

@@ -1,14 +1,15 @@
 // The call over files and sinks that never fail.
 
-ghost use Rattle.std.specs.Prelude.{◌≡◌, ◌≢◌, ◌⊎◌, ℕ, List, map, Option, Some, None, IsSome};
+ghost use Rattle.std.specs.Prelude.{◌≡◌, ◌≢◌, ◌⊎◌, ◌↔◌, ℕ, List, [], map, Option, Some, None, IsSome};
 ghost use Rattle.r3_outside.specs.Contents.{file_bytes};
 ghost use Rattle.r3_outside.specs.Growth.{Grew};
+ghost use Rattle.r3_outside.specs.NameCounts.{count_of};
 ghost use Rattle.r3_faults.specs.declared.faults.Fault.{Fault};
-ghost use Rattle.r3_faults.specs.Lines.{status_of};
+ghost use Rattle.r3_faults.specs.Lines.{line_of, status_of};
 ghost use Rattle.r3_core.specs.declared.words.Numbers.{Numbers};
 ghost use Rattle.r3_core.specs.Words.{texts, files_of, IsListed, Says};
 ghost use Rattle.r3_core.specs.declared.words.Command.{Command};
-ghost use Rattle.r3_core.specs.Causes.{first_longer, IsDoable, IsPrintedFor, IsRefusal};
+ghost use Rattle.r3_core.specs.Causes.{first_longer, reading_of, IsCause, IsDoable, IsPrintedFor, IsRefusal};
 
 use crate::r3;
 use r3_outside::{SureFiles, SureSink};
@@ -24,6 +25,13 @@ pub fn r3_in_memory(
     out: &mut SureSink,
     err: &mut SureSink,
 ) -> u8
+    // The words are not a listed call. No file is read then, nor if the words name no file.
+    ensures usage { (result ≡ 2) ↔ (¬ (IsListed (texts words.now))) }
+    ensures listed { result ≢ 2 → IsListed (texts words.now) }
+    ensures unread { (result ≡ 2) ⊎ (files_of (texts words.now) ≡ []) → files.new ≡ files.old }
+    ensures contents_unchanged { files.new.files ≡ files.old.files }
+
+    // The status.
     ensures no_read_fault { result ≢ 3 }
     ensures no_write_fault { result ≢ 13 }
     ensures longer { IsListed (texts words.now)
@@ -39,9 +47,20 @@ pub fn r3_in_memory(
         → first_longer files.old.files (files_of (texts words.now)) ≡ None
         → IsDoable command (map (file_bytes files.old.files) names) numbers
         → (result ≡ 0) ⊎ (result ≡ 14) }
+
+    // What is printed.
     ensures printed { result ≡ 0 → (bytes : List ℕ)
         × IsPrintedFor (texts words.now) (Some files.old.files) bytes
         × Grew out.old out.new bytes }
+    ensures nothing_printed { result ≢ 0 → out.new ≡ out.old }
+
+    // The line that reports the fault.
+    ensures silent { result ≡ 0 → err.new ≡ err.old }
+    ensures reported { result ≢ 0 → (fault : Fault) × (status_of fault ≡ result)
+        × IsCause (texts words.now)
+        (reading_of (Some files.old.files) (λ _. 0) (λ _. 0) (count_of files.old.taken) (count_of files.new.taken))
+        0 0 fault
+        × Grew err.old err.new (line_of fault) }
 {
     r3(alloc, words, files, out, err)
 }

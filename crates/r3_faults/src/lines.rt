@@ -23,6 +23,7 @@ impl Fault {
     pub fn put_line<E: Sink>(&self, err: &mut E) -> Result<(), PutFault>
         ensures faults_never_fall { E.faults err.old ≤ E.faults err.new }
         ensures failed { OnErr result (Rose (E.faults err.old) (E.faults err.new)) }
+        ensures failed_none { OnOk result (E.faults err.new ≡ E.faults err.old) }
         ensures wrote { OnOk result (Grew (E.written err.old) (E.written err.new) (line_of self.now)) }
         ensures wrote_prefix { OnErr result
             (GrewByPrefix (E.written err.old) (E.written err.new) (line_of self.now)) }
@@ -90,6 +91,7 @@ impl Fault {
 fn put_number<E: Sink>(err: &mut E, text: &[u8], number: u64) -> Result<(), PutFault>
     ensures faults_never_fall { E.faults err.old ≤ E.faults err.new }
     ensures failed { OnErr result (Rose (E.faults err.old) (E.faults err.new)) }
+    ensures failed_none { OnOk result (E.faults err.new ≡ E.faults err.old) }
     ensures wrote { OnOk result (Grew (E.written err.old) (E.written err.new)
         (text.now ++ (decimal number ++ codes "\n"))) }
     ensures wrote_prefix { OnErr result (GrewByPrefix (E.written err.old) (E.written err.new)
@@ -103,6 +105,7 @@ fn put_number<E: Sink>(err: &mut E, text: &[u8], number: u64) -> Result<(), PutF
 fn put_digests<E: Sink>(err: &mut E, tape: &[u8; 32], given: &[u8; 32]) -> Result<(), PutFault>
     ensures faults_never_fall { E.faults err.old ≤ E.faults err.new }
     ensures failed { OnErr result (Rose (E.faults err.old) (E.faults err.new)) }
+    ensures failed_none { OnOk result (E.faults err.new ≡ E.faults err.old) }
     ensures wrote { OnOk result (Grew (E.written err.old) (E.written err.new)
         (line_of (Fault.OtherModule tape.now given.now))) }
     ensures wrote_prefix { OnErr result (GrewByPrefix (E.written err.old) (E.written err.new)
@@ -140,6 +143,7 @@ fn put_unsupported<E: Sink>(
 ) -> Result<(), PutFault>
     ensures faults_never_fall { E.faults err.old ≤ E.faults err.new }
     ensures failed { OnErr result (Rose (E.faults err.old) (E.faults err.new)) }
+    ensures failed_none { OnOk result (E.faults err.new ≡ E.faults err.old) }
     ensures wrote { OnOk result (Grew (E.written err.old) (E.written err.new)
         (line_of (Fault.Unsupported func number feature))) }
     ensures wrote_prefix { OnErr result (GrewByPrefix (E.written err.old) (E.written err.new)
@@ -164,6 +168,7 @@ fn put_unsupported<E: Sink>(
 fn put_no_call<E: Sink>(err: &mut E, k: u64, calls: u64) -> Result<(), PutFault>
     ensures faults_never_fall { E.faults err.old ≤ E.faults err.new }
     ensures failed { OnErr result (Rose (E.faults err.old) (E.faults err.new)) }
+    ensures failed_none { OnOk result (E.faults err.new ≡ E.faults err.old) }
     ensures wrote { OnOk result (Grew (E.written err.old) (E.written err.new)
         (line_of (Fault.NoCall k calls))) }
     ensures wrote_prefix { OnErr result (GrewByPrefix (E.written err.old) (E.written err.new)
@@ -187,6 +192,7 @@ fn put_no_call<E: Sink>(err: &mut E, k: u64, calls: u64) -> Result<(), PutFault>
 fn put_script<E: Sink>(err: &mut E, turn: u64, kind: FaultKind) -> Result<(), PutFault>
     ensures faults_never_fall { E.faults err.old ≤ E.faults err.new }
     ensures failed { OnErr result (Rose (E.faults err.old) (E.faults err.new)) }
+    ensures failed_none { OnOk result (E.faults err.new ≡ E.faults err.old) }
     ensures wrote { OnOk result (Grew (E.written err.old) (E.written err.new)
         (line_of (Fault.Script turn kind))) }
     ensures wrote_prefix { OnErr result (GrewByPrefix (E.written err.old) (E.written err.new)
@@ -271,6 +277,7 @@ fn put_name<E: Sink>(
 ) -> Result<(), PutFault>
     ensures faults_never_fall { E.faults err.old ≤ E.faults err.new }
     ensures failed { OnErr result (Rose (E.faults err.old) (E.faults err.new)) }
+    ensures failed_none { OnOk result (E.faults err.new ≡ E.faults err.old) }
     ensures wrote { OnOk result (Grew (E.written err.old) (E.written err.new)
         (before.now ++ (escaped name.now ++ flat_map (λ part. part.now) after.now))) }
     ensures wrote_prefix { OnErr result (GrewByPrefix (E.written err.old) (E.written err.new)
@@ -285,6 +292,7 @@ fn put_name<E: Sink>(
 fn put_escaped<E: Sink>(err: &mut E, text: &[u8]) -> Result<(), PutFault>
     ensures faults_never_fall { E.faults err.old ≤ E.faults err.new }
     ensures failed { OnErr result (Rose (E.faults err.old) (E.faults err.new)) }
+    ensures failed_none { OnOk result (E.faults err.new ≡ E.faults err.old) }
     ensures wrote { OnOk result
         (Grew (E.written err.old) (E.written err.new) (escaped text.now)) }
     ensures wrote_prefix { OnErr result
@@ -303,6 +311,7 @@ fn put_run<E: Sink>(err: &mut E, text: &[u8]) -> Result<usize, PutFault>
     requires { 0 < length text.now }
     ensures faults_never_fall { E.faults err.old ≤ E.faults err.new }
     ensures failed { OnErr result (Rose (E.faults err.old) (E.faults err.new)) }
+    ensures failed_none { OnOk result (E.faults err.new ≡ E.faults err.old) }
     ensures some { IfOk result (λ count. 0 < count) }
     ensures within { IfOk result (λ count. count ≤ length text.now) }
     ensures wrote { IfOk result

@@ -6,12 +6,14 @@ ghost use Rattle.wasm_syntax.specs.declared.limits.TheConstants.{MAX_TAPE_WEIGHT
 ghost use Rattle.wasm_syntax.specs.declared.forms.Form.TheVariants.{Core};
 ghost use Rattle.wasm_syntax.specs.Encoding.Forms.{IsCoreModule};
 ghost use Rattle.wasm_syntax.specs.Encoding.Modules.{Encodes};
+ghost use Rattle.wasm_syntax.specs.Encoding.Shortest.{encoding_of};
 ghost use Rattle.history_spec.specs.Instantiation.{instantiate};
 ghost use Rattle.history_spec.specs.Store.{Store};
 ghost use Rattle.trace_model.specs.Fitting.{IsFitting};
 ghost use Rattle.trace_model.specs.Weight.{tape_weight};
 ghost use Rattle.type_safety.specs.Supplies.{HasBytes, IsRunnable, IsSupply};
 ghost use Rattle.replay_module_laws.specs.Written.{IsConstantTape};
+ghost use Rattle.generated_code_laws.specs.Playable.{replay_of};
 ghost use Rattle.replay_encoding_laws.specs.Premises.{CanBeReplayed};
 ghost use Rattle.accepted_runs.specs.Runnable.{CanRun};
 ghost use Rattle.r3_faults.specs.Answers.{IsCaused, IsExact};
@@ -104,6 +106,7 @@ pub fn replay_bytes(
     requires light { tape_weight tape ≤ MAX_TAPE_WEIGHT }
     requires constants { IsConstantTape tape }
     ensures cause { IfErr result (λ fault. fault ≡ Memory) }
+    ensures shortest { IfOk result (λ printed. printed.items ≡ encoding_of (replay_of checked supply.now tape)) }
     ensures printed { IfOk result (λ printed. (store : Store) → instantiate checked supply.now ≡ Ok store
         → IsReplayOf checked supply.now store tape printed.items) }
 {
@@ -131,6 +134,7 @@ pub(crate) fn encoded_replay(
     requires core { IsCoreModule checked }
     requires can { CanBeReplayed checked supply.now tape }
     ensures cause { IfErr result (λ fault. fault ≡ Memory) }
+    ensures shortest { IfOk result (λ printed. printed.items ≡ encoding_of (replay_of checked supply.now tape)) }
     ensures printed { IfOk result (λ printed. (store : Store) → instantiate checked supply.now ≡ Ok store
         → IsReplayOf checked supply.now store tape printed.items) }
 {

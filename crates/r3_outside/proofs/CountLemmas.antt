@@ -37,6 +37,13 @@ module _ {Y : Type 0} (counts : NameCounts) (listed : BTreeMap (String Y) ℕ) (
       ∙ found-number (get_by_text listed name)
       ∙ ap (λ o. unwrap_or o 0) (sym e)
 
+  -- a name under which nothing is found is not listed
+  pub not_listed : None ≡ get_by_text listed name → map.get counts.listed name ≡ None
+  not_listed none =
+      ap (λ c. map.get c.listed name) (sym is)
+      ∙ get-by_name (λ count. count) listed.entries name
+      ∙ ap (option_map (λ count. count)) (sym none)
+
   -- a table that has this number under the name, and all else as before
   pub with_number-updates : (now : BTreeMap (String Y) ℕ) (given : List ℕ) (number : ℕ) → given ≡ name
       → UpdatesBy string_cmp (λ key. slice_cmp nat_cmp given (string_bytes key)) listed now (Some number)
@@ -89,7 +96,7 @@ pub IsCountedFor-count : (name : List ℕ) (more : ℕ) (before now : NameCounts
     → count_of now name ≡ saturating_add (count_of before name) more
 IsCountedFor-count name more before now (inl e) =
     ap (λ c. count_of c name) e ∙ omega (arith, listed_under-name before name more)
-IsCountedFor-count name more before now (inr e) = ap (λ c. count_of c name) e ∙ omega arith
+IsCountedFor-count name more before now (inr (new, e)) = ap (λ c. count_of c name) e ∙ omega arith
 
 -- no count is less
 pub IsCountedFor-none_fell : (name : List ℕ) (more : ℕ) (before now : NameCounts) → IsCountedFor name more before now
@@ -99,4 +106,4 @@ IsCountedFor-none_fell name more before now (inl e) other =
       | inl rose ↦ omega (arith, ap (λ c. count_of c other) e, rose)
       | inr same ↦ omega (arith, ap (λ c. count_of c other) e, same)
     ]
-IsCountedFor-none_fell name more before now (inr e) other = omega (arith, ap (λ c. count_of c other) e)
+IsCountedFor-none_fell name more before now (inr (new, e)) other = omega (arith, ap (λ c. count_of c other) e)

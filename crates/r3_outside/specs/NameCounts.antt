@@ -1,5 +1,5 @@
 -- Counts by name, which go on if there is no memory for a name.
-use Rattle.std.specs.Prelude.{◌≡◌, ℕ, ◌⊎◌, List, refl, unwrap_or}
+use Rattle.std.specs.Prelude.{◌≡◌, ℕ, ◌⊎◌, List, None, refl, unwrap_or}
 use Rattle.std.specs.Coded.{Coded, code_by, coded×, coded_list, coded_ℕ}
 use Rattle.std.specs.Ordering.{nat_cmp}
 use Rattle.std.specs.Cmp.Lexicographic.{slice_cmp}
@@ -38,6 +38,8 @@ with_listed counts name more = record counts {
 abbrev pub with_unlisted : NameCounts → ℕ → NameCounts
 with_unlisted counts more = record counts { unlisted = saturating_add counts.unlisted more }
 
--- `more` was counted for a name
+-- `more` was counted for a name; for every name only if this one was not listed
 abbrev pub IsCountedFor : (name : List ℕ) → (more : ℕ) → (before now : NameCounts) → Type 0
-IsCountedFor name more before now = (now ≡ with_listed before name more) ⊎ (now ≡ with_unlisted before more)
+IsCountedFor name more before now =
+    (now ≡ with_listed before name more)
+    ⊎ ((map.get before.listed name ≡ None) × (now ≡ with_unlisted before more))

@@ -1,6 +1,6 @@
--- The files and sinks that are kept in memory, as values.
-use Rattle.std.specs.Prelude.{ℕ, ◌==◌, Bool, not, ◌||◌, List, map, refl, String, string_bytes}
-use Rattle.std.specs.Coded.{Coded, code_by, coded×, coded_list, coded_ℕ}
+-- The files and sinks, as values.
+use Rattle.std.specs.Prelude.{ℕ, ◌==◌, Bool, not, ◌||◌, List, map, Option, refl, String, string_bytes}
+use Rattle.std.specs.Coded.{Coded, code_by, coded×, coded_list, coded_option, coded_ℕ}
 use Rattle.std.specs.List.{list_any}
 use Rattle.std.specs.Ordering.{nat_cmp}
 use Rattle.std.specs.Cmp.Lexicographic.{slice_cmp}
@@ -78,3 +78,13 @@ abbrev pub disk_counts_code : Coded DiskCounts
 disk_counts_code =
     code_by (NameCounts × NameCounts) (coded× name_counts_code name_counts_code) (λ c. (c.faults, c.taken))
     (λ p. record { faults = p.0; taken = p.1 }) (λ _. refl)
+
+-- a writer as a sink: the bytes that the writer holds, where it shows them, and the count of faults
+pub record StdOutput : Type 0 where
+  pub held : Option (List ℕ)
+  pub faults : ℕ
+
+abbrev pub std_output_code : Coded StdOutput
+std_output_code =
+    code_by (Option (List ℕ) × ℕ) (coded× (coded_option (coded_list coded_ℕ)) coded_ℕ) (λ s. (s.held, s.faults))
+    (λ p. record { held = p.0; faults = p.1 }) (λ _. refl)

@@ -23,6 +23,7 @@ pub enum PutFault {
 pub fn put_all<S: Sink>(sink: &mut S, bytes: &[u8]) -> Result<(), PutFault>
     ensures faults_never_fall { S.faults sink.old ≤ S.faults sink.new }
     ensures failed { OnErr result (Rose (S.faults sink.old) (S.faults sink.new)) }
+    ensures failed_none { OnOk result (S.faults sink.new ≡ S.faults sink.old) }
     ensures wrote { OnOk result (Grew (S.written sink.old) (S.written sink.new) bytes.now) }
     ensures wrote_prefix { OnErr result (GrewByPrefix (S.written sink.old) (S.written sink.new) bytes.now) }
 {
@@ -44,6 +45,7 @@ pub fn put_all<S: Sink>(sink: &mut S, bytes: &[u8]) -> Result<(), PutFault>
 pub fn put_parts<S: Sink>(sink: &mut S, parts: &[&[u8]]) -> Result<(), PutFault>
     ensures faults_never_fall { S.faults sink.old ≤ S.faults sink.new }
     ensures failed { OnErr result (Rose (S.faults sink.old) (S.faults sink.new)) }
+    ensures failed_none { OnOk result (S.faults sink.new ≡ S.faults sink.old) }
     ensures wrote { OnOk result
         (Grew (S.written sink.old) (S.written sink.new) (flat_map (λ part. part.now) parts.now)) }
     ensures wrote_prefix { OnErr result

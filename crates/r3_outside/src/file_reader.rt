@@ -1,6 +1,6 @@
 // Reading whole files.
 
-ghost use Rattle.std.specs.Prelude.{◌≡◌, ℕ, ◌+◌, ◌^◌, ◌<◌, ◌≤◌, length, IfOk, IsErrOf, vec_len};
+ghost use Rattle.std.specs.Prelude.{◌≡◌, ℕ, ◌+◌, ◌^◌, ◌<◌, ◌≤◌, List, length, IfOk, IsErrOf, vec_len};
 ghost use Rattle.std.specs.Option.{ForSome};
 ghost use Rattle.r3_outside.specs.Count.{Rose, Took, NoneFell};
 ghost use Rattle.r3_outside.specs.Contents.{file_bytes};
@@ -49,6 +49,8 @@ pub fn load<F: Files>(
 
     ensures failed { IsErrOf result LoadFault.Failed →
         Rose (F.faults files.old name.now) (F.faults files.new name.now) }
+    ensures failed_none { (IsErrOf result LoadFault.Failed → ⊥)
+        → (other : List ℕ) → F.faults files.new other ≡ F.faults files.old other }
 
     ensures too_long { IsErrOf result LoadFault.TooLong →
         Took (F.taken files.old name.now) (F.taken files.new name.now) (limit + 1) }

@@ -2,7 +2,7 @@
 //! and what reads a whole file or writes a whole list over any of them.
 #![tactic(auto)]
 
-ghost use Rattle.std.specs.Prelude.{◌≡◌, ℕ, ◌<◌, ◌≤◌, List, length, take, Option, OnErr, IfOk};
+ghost use Rattle.std.specs.Prelude.{◌≡◌, ℕ, ◌<◌, ◌≤◌, List, length, take, Option, OnOk, OnErr, IfOk};
 ghost use Rattle.std.specs.Option.{ForSome};
 ghost use Rattle.r3_outside.specs.Count.{Rose, NoneFell, saturating_add};
 ghost use Rattle.r3_outside.specs.Contents.{FileMap, file_bytes, IsPiece};
@@ -55,6 +55,7 @@ pub trait Files {
         // If there is no memory for a name, what is counted for it may count for others too.
         ensures faults_never_fall { NoneFell (faults self.old) (faults self.new) }
         ensures failed { OnErr result (Rose (faults self.old name.now) (faults self.new name.now)) }
+        ensures failed_none { OnOk result ((other : List ℕ) → faults self.new other ≡ faults self.old other) }
 
         ensures taken_never_falls { NoneFell (taken self.old) (taken self.new) }
         ensures took { IfOk result
@@ -85,6 +86,7 @@ pub trait Sink {
 
         ensures faults_never_fall { faults self.old ≤ faults self.new }
         ensures failed { OnErr result (Rose (faults self.old) (faults self.new)) }
+        ensures failed_none { OnOk result (faults self.new ≡ faults self.old) }
 
         ensures some { IfOk result (λ k. 0 < k) }
         ensures within_piece { IfOk result (λ k. k ≤ length piece.now) }

@@ -1,7 +1,9 @@
 // The files and streams of the system.
 
-ghost use Rattle.std.specs.Prelude.{◌≡◌, ◌≤◌, length, None, IfOk};
-ghost use Rattle.r3_outside.specs.NameCounts.{no_counts, count_of};
+ghost use Rattle.std.specs.Prelude.{◌≡◌, ◌<◌, ◌≤◌, length, take, None, IfOk, OnOk, OnErr};
+ghost use Rattle.std.specs.Io.KnownBytes.{Appends, Keeps};
+ghost use Rattle.r3_outside.specs.Count.{NoneFell, saturating_add};
+ghost use Rattle.r3_outside.specs.NameCounts.{no_counts, count_of, IsCountedFor};
 
 use crate::counts::Counts;
 use crate::{Failed, Files, Sink};
@@ -52,7 +54,20 @@ impl<R: rt::Files + AllocGlobal + Drop> Files for DiskFiles<R> {
 
     ghost taken = { λ files. count_of files.taken };
 
-    fn read_at(&mut self, name: &str, at: u64, into: &mut [u8]) -> Result<usize, Failed> {
+    fn read_at(&mut self, name: &str, at: u64, into: &mut [u8]) -> Result<usize, Failed>
+        requires { 0 < length into.old }
+        ensures faults_never_fall { NoneFell (count_of self.old.faults) (count_of self.new.faults) }
+        ensures fault_counted { OnErr result (IsCountedFor name.now 1 self.old.faults self.new.faults) }
+        ensures fault_count { OnErr result
+            (count_of self.new.faults name.now ≡ saturating_add (count_of self.old.faults name.now) 1) }
+        ensures failed_none { OnOk result (self.new.faults ≡ self.old.faults) }
+        ensures taken_never_falls { NoneFell (count_of self.old.taken) (count_of self.new.taken) }
+        ensures bytes_counted { IfOk result (λ k. IsCountedFor name.now k self.old.taken self.new.taken) }
+        ensures byte_count { IfOk result
+            (λ k. count_of self.new.taken name.now ≡ saturating_add (count_of self.old.taken name.now) k) }
+        ensures took_none { OnErr result (self.new.taken ≡ self.old.taken) }
+        ensures within_buffer { IfOk result (λ k. k ≤ length into.new) }
+    {
         match self.reader.read_at(name, at, into) {
             Ok(count) => {
                 self.taken.add(name, count as u64);
@@ -134,17 +149,19 @@ pub struct StdSink<W: Write + Drop> {
 }
 
 impl<W: Write + Drop> Model for StdSink<W> {
-    ghost use Rattle.std.specs.Prelude.{ℕ};
+    ghost use Rattle.r3_outside.specs.Stores.{StdOutput, std_output_code};
 
-    ghost Value = { ℕ };
+    ghost Value = { StdOutput };
 
-    ghost view = { λ sink. sink.faults };
+    ghost coded = { std_output_code };
+
+    ghost view = { λ sink. record { held = W.contents sink.writer; faults = sink.faults } };
 }
 
 impl<W: Write + Drop> StdSink<W> {
     /// A writer as a sink. Takes no memory.
     pub fn new(writer: W) -> StdSink<W>
-        ensures { result ≡ 0 }
+        ensures { result ≡ record { held = W.contents writer; faults = 0 } }
     {
         StdSink { writer, faults: 0 }
     }
@@ -153,10 +170,20 @@ impl<W: Write + Drop> StdSink<W> {
 impl<W: Write + Drop> Sink for StdSink<W> {
     ghost written = { λ _. None };
 
-    ghost faults = { λ sink. sink };
+    ghost faults = { λ sink. sink.faults };
 
     /// A writer that takes nothing of `piece` fails.
-    fn write(&mut self, piece: &[u8]) -> Result<usize, Failed> {
+    fn write(&mut self, piece: &[u8]) -> Result<usize, Failed>
+        requires { 0 < length piece.now }
+        ensures faults_never_fall { self.old.faults ≤ self.new.faults }
+        ensures failed { OnErr result (self.new.faults ≡ saturating_add self.old.faults 1) }
+        ensures failed_none { OnOk result (self.new.faults ≡ self.old.faults) }
+        ensures some { IfOk result (λ k. 0 < k) }
+        ensures within_piece { IfOk result (λ k. k ≤ length piece.now) }
+        // If the writer shows the bytes that it holds: exactly the bytes counted were appended, and none at a failure.
+        ensures held { IfOk result (λ k. Appends self.old.held self.new.held (take k piece.now)) }
+        ensures kept { OnErr result (Keeps self.old.held self.new.held) }
+    {
         match self.writer.write(piece) {
             Ok(count) if count > 0 => Ok(count),
             _ => {

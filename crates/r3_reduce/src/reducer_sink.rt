@@ -1,7 +1,8 @@
 // A reducer as the sink of a log's events.
 
-ghost use Rattle.std.specs.Prelude.{◌≡◌, []};
-ghost use Rattle.trace_reduce.specs.Reducer.{HasTaken, imports_of, most_of};
+ghost use Rattle.std.specs.Prelude.{◌≡◌, [], OnOk, OnErr};
+ghost use Rattle.trace_reduce.specs.Reducer.{HasLost, HasTaken, imports_of, most_of};
+ghost use Rattle.r3_reduce.specs.TapeFiles.{TakesNext};
 ghost use Rattle.wasm_syntax.specs.declared.limits.TheConstants.{MAX_TRACE_BYTES};
 
 use base::NoMemory;
@@ -22,6 +23,7 @@ impl ReducerSink {
     /// memory.
     pub(crate) fn new(alloc: Global, imports: u32) -> ReducerSink
         ensures taken { HasTaken result.reducer [] }
+        ensures keeps { HasLost result.reducer → ⊥ }
         ensures imports { imports_of result.reducer ≡ imports }
         ensures most { most_of result.reducer ≡ MAX_TRACE_BYTES }
     {
@@ -44,7 +46,11 @@ impl LogSink for ReducerSink {
 
     ghost takes = { λ before event now. TakesNext before.reducer event now.reducer };
 
-    fn take(&mut self, event: Event) -> Result<(), NoMemory> {
+    fn take(&mut self, event: Event) -> Result<(), NoMemory>
+        ensures ok { OnOk result (TakesNext self.old.reducer event self.new.reducer) }
+        ensures keeps { OnOk result (HasLost self.new.reducer → ⊥) }
+        ensures loses { OnErr result (HasLost self.new.reducer) }
+    {
         self.reducer.push(event)
     }
 }

@@ -41,7 +41,7 @@ impl Frozen {
         self.memory.frozen_pages()
     }
 
-    /// The byte that was known at an address; zero past the memory.
+    /// The byte that was known at an address.
     pub fn byte(&self, addr: u64) -> u8
         ensures { result ≡ slice_index self.now.bytes addr }
     {

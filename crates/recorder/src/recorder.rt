@@ -93,7 +93,8 @@ impl<S: EventSink + Drop> Recorder<S> {
         })
     }
 
-    /// The sink, which has taken the events of the calls so far. Takes no memory.
+    /// The sink, which has taken the events of the calls so far; after a call that ended with `Memory`, perhaps some
+    /// of that call's too. Takes no memory.
     pub fn close(self) -> S
         ensures { result ≡ self.recording.sink }
     {
@@ -102,8 +103,8 @@ impl<S: EventSink + Drop> Recorder<S> {
         sink
     }
 
-    /// The sink, which has taken the events of the calls so far, and what was known when the recorder was frozen
-    /// last; `None` if it never was. Takes no memory.
+    /// The sink, as `close` returns it, and what was known when the recorder was frozen last; `None` if it never was.
+    /// Takes no memory.
     pub fn close_frozen(self) -> (S, Option<Frozen>)
         ensures { (result.0 ≡ self.recording.sink) × (result.1 ≡ self.frozen) }
     {
@@ -146,7 +147,8 @@ impl Recorder<Events> {
         Recorder::into_sink(alloc, checked, supply, imports, Events::new(alloc))
     }
 
-    /// The log of the calls so far, with an outcome. Takes no memory.
+    /// The log of the calls so far, with an outcome. After a call that ended with `Memory`, it may have some of that
+    /// call's events. Takes no memory.
     pub fn finish(self, outcome: Outcome) -> Log
         ensures { result ≡ record {
           imports = self.recording.order.shape.imports;

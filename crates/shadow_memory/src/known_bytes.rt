@@ -36,7 +36,8 @@ impl Model for KeptBytes {
 impl KeptBytes {
     /// Zeros everywhere, and no frozen bytes. Takes no memory.
     pub(crate) fn new(alloc: Global) -> KeptBytes
-        ensures { (at : ℕ) → slice_index result.bytes at ≡ 0 }
+        ensures known { (at : ℕ) → slice_index result.bytes at ≡ 0 }
+        ensures frozen { (at : ℕ) → slice_index result.frozen at ≡ 0 }
     {
         KeptBytes {
             places: Vec::new(alloc),

@@ -1,6 +1,6 @@
 // What is known of the memory at the beginning of a run.
 
-ghost use Rattle.std.specs.Prelude.{◌≡◌, ◌*◌, Ok, IfOk, IsOk, OnOk};
+ghost use Rattle.std.specs.Prelude.{◌≡◌, ℕ, ◌*◌, Ok, IfOk, IsOk, OnOk, slice_index};
 ghost use Rattle.history_spec.specs.Store.{Store};
 ghost use Rattle.history_spec.specs.Instantiation as history;
 ghost use Rattle.wasm_store.specs.Calls.{bytes_in, pages_in};
@@ -18,7 +18,7 @@ use wasm_syntax::limits::PAGE_SIZE;
 use wasm_syntax::{DataSeg, Limits, Module, Val};
 
 /// The bytes of the memory that a module is instantiated with, and its number of pages. The module links with
-/// the supply.
+/// the supply. Nothing is frozen.
 ///
 /// # Errors
 /// `NoMemory` if an allocation failed.
@@ -28,9 +28,10 @@ pub(crate) fn opening(
     supply: &Supply,
 ) -> Result<(KeptBytes, u32), NoMemory>
     requires { IsOk (history.instantiate «module».now supply.now) }
-    ensures { IfOk result (λ opening. (store : Store)
+    ensures opens { IfOk result (λ opening. (store : Store)
         → history.instantiate «module».now supply.now ≡ Ok store
         → AreSame (bytes_in store) opening.0.bytes × opening.1 ≡ pages_in store) }
+    ensures frozen { IfOk result (λ opening. (at : ℕ) → slice_index opening.0.frozen at ≡ 0) }
 {
     instantiated_parts();
     let pages = page_count(memory_limits(module, supply));
@@ -38,12 +39,13 @@ pub(crate) fn opening(
     Ok((bytes, pages))
 }
 
-/// The bytes of the memory that a module is instantiated with.
+/// The bytes of the memory that a module is instantiated with. Nothing is frozen.
 fn opening_bytes(alloc: Global, module: &Module, supply: &Supply) -> Result<KeptBytes, NoMemory>
     requires { IsOk (history.instantiate «module».now supply.now) }
-    ensures { IfOk result (λ kept. (store : Store)
+    ensures opens { IfOk result (λ kept. (store : Store)
         → history.instantiate «module».now supply.now ≡ Ok store
         → AreSame (bytes_in store) kept.bytes) }
+    ensures frozen { IfOk result (λ kept. (at : ℕ) → slice_index kept.frozen at ≡ 0) }
 {
     instantiated_parts();
     // no segment ends past what 64 bits count
@@ -60,7 +62,8 @@ fn opening_bytes(alloc: Global, module: &Module, supply: &Supply) -> Result<Kept
 /// Takes the bytes of data segments, one after another.
 fn take_datas(kept: &mut KeptBytes, imported: &[Val], datas: &[DataSeg]) -> Result<(), NoMemory>
     requires { EndWithin imported.now usize.MAX datas.now }
-    ensures { OnOk result (HoldDatas imported.now datas.now kept.old.bytes kept.new.bytes) }
+    ensures taken { OnOk result (HoldDatas imported.now datas.now kept.old.bytes kept.new.bytes) }
+    ensures frozen { kept.new.frozen ≡ kept.old.frozen }
 {
     'datas: for segment in datas {
         let offset = offset_of(imported, segment.offset.as_slice());

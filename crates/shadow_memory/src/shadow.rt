@@ -4,7 +4,7 @@ ghost use Rattle.std.specs.Prelude.{◌≡◌, ◌≢◌, ◌↔◌, ◌+◌, �
 ghost use Rattle.history_spec.specs.Store.{Store};
 ghost use Rattle.history_spec.specs.Instantiation as history;
 ghost use Rattle.shadow_memory.specs.Opening.{IsOpening};
-ghost use Rattle.shadow_memory.specs.Shadow.{known_byte, to_freeze, HasTaken, IsBlock, IsUnchanged};
+ghost use Rattle.shadow_memory.specs.Shadow.{known_byte, to_freeze, HasFrozenNothing, HasTaken, IsBlock, IsUnchanged};
 ghost use Rattle.shadow_memory.specs.Runs.{AreKnown, compared, IsComparison};
 
 use crate::known_bytes::KeptBytes;
@@ -43,7 +43,7 @@ impl Model for ShadowMemory {
 
 impl ShadowMemory {
     /// What is known at the beginning of a run of a module that links with a supply: the memory that it is
-    /// instantiated with (Core 1.0, 4.5.4).
+    /// instantiated with (Core 1.0, 4.5.4). Nothing is frozen.
     ///
     /// # Errors
     /// `NoMemory` if an allocation failed.
@@ -53,8 +53,9 @@ impl ShadowMemory {
         supply: &Supply,
     ) -> Result<ShadowMemory, NoMemory>
         requires { IsOk (history.instantiate checked.now supply.now) }
-        ensures { IfOk result (λ shadow. (store : Store)
+        ensures opens { IfOk result (λ shadow. (store : Store)
             → history.instantiate checked.now supply.now ≡ Ok store → IsOpening store shadow) }
+        ensures frozen { IfOk result (λ shadow. HasFrozenNothing shadow) }
     {
         let (bytes, pages) = opening(alloc, checked.module(), supply)?;
         Ok(ShadowMemory {

@@ -291,7 +291,7 @@ impl ShownText {
     ///
     /// # Errors
     ///
-    /// `NoMemory` if memory is out; some of the lines are written then.
+    /// `NoMemory` if memory is out; the text is not to be used then.
     pub fn show_all(&mut self, entries: &[Entry]) -> Result<(), NoMemory>
         ensures { OnOk result (Shows self.old self.new [] entries.now) }
     {

@@ -37,7 +37,8 @@ pub fn state_modules_can_be_replayed()
     shortest_encoding();
 }
 
-/// The module that begins in a state has lists that are as short as those of the original.
+/// The module that begins in a state has as many types, imports, functions, parameters, runs of locals and instructions
+/// as the original, and is short enough to be made flat, if the original is.
 pub fn state_modules_are_short()
     ensures { StateModulesAreShort }
 {}

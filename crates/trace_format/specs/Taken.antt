@@ -1,5 +1,5 @@
 -- What a sink takes of the log that bytes encode.
-use Rattle.std.specs.Prelude.{◌≡◌, ℕ, List, [], ◌∷◌, ◌++◌, None}
+use Rattle.std.specs.Prelude.{◌≡◌, ◌⊎◌, ℕ, List, [], ◌∷◌, ◌++◌, Some, None}
 use Rattle.wasm_syntax.specs.Encoding.Combinators.{Reader}
 use Rattle.wasm_syntax.specs.Encoding.Encodable.{FitsU32}
 use Rattle.base.specs.declared.outcomes.Outcome.{Outcome}
@@ -10,7 +10,7 @@ use Rattle.trace_bytes.specs.Spelled.{IsDigest, IsVersion}
 use Rattle.trace_format.specs.Answers.{AreEnded}
 use Rattle.trace_format.specs.Faults.{IsLogOf}
 use Rattle.trace_format.specs.Files.{AreRead}
-use Rattle.trace_format.specs.Reading.{first_event, first_outcome}
+use Rattle.trace_format.specs.Reading.{first_event, first_log_header, first_outcome}
 
 -- the bytes begin with the header of a log, with this digest and this number of imported functions
 pub record BeginsLog (bytes digest : List ℕ) (imports : ℕ) : Type 0 where
@@ -54,6 +54,19 @@ pub record AreAllTaken {S : Type 0} (read : Reader Event) (takes : S → Event �
     (before now : S) : Type 0 where
   pub taken : AreTaken read takes bytes left before now
   pub ended : read left ≡ None
+
+-- the sink took exactly the events that are whole, from the start on
+pub record TakesEvents {S : Type 0} (version : ℕ) (start : List ℕ) (takes : S → Event → S → Type 0) (before now : S)
+    : Type 0 where
+  pub left : List ℕ
+  pub all : AreAllTaken (first_event version) takes start left before now
+
+-- the sink took exactly the whole events of a log's file; nothing, if the file does not begin with the header of a log
+abbrev pub TakesWhole : {S : Type 0} → (bytes : List ℕ) → (takes : S → Event → S → Type 0) → (before now : S) → Type 0
+TakesWhole bytes takes before now =
+    ((first_log_header bytes ≡ None) × (now ≡ before))
+    ⊎ ((header : (ℕ × List ℕ) × ℕ) × (start : List ℕ) × (first_log_header bytes ≡ Some (header, start))
+    × TakesEvents header.0.0 start takes before now)
 
 -- the sink took the events that begin at the start, and the outcome follows them
 pub record AreTakenToEnd {S : Type 0} (version : ℕ) (start : List ℕ) (takes : S → Event → S → Type 0)

@@ -6,7 +6,7 @@ ghost use Rattle.trace_format.specs.Answers.{IsItemsFault, IsLogAnswer, IsLogRea
 ghost use Rattle.trace_format.specs.Faults.{IsLogFault, IsLogOf};
 ghost use Rattle.trace_format.specs.Files.{Shrinks};
 ghost use Rattle.trace_format.specs.Reading as plain;
-ghost use Rattle.trace_format.specs.Taken.{AreAllTaken, AreTakenToEnd, BeginsLog, IsLogTaken, TakesLog};
+ghost use Rattle.trace_format.specs.Taken.{AreAllTaken, AreTakenToEnd, BeginsLog, IsLogTaken, TakesEvents, TakesLog, TakesWhole};
 ghost use Rattle.trace_format.specs.declared.files.FormatFault.TheVariants as faults;
 
 use crate::files::FormatFault;
@@ -76,6 +76,9 @@ pub fn log_events<S: LogSink>(
         × IfErr result (λ fault. fault ≡ faults.Memory) }
     // Every error has a cause.
     ensures fault { IfErr result (λ fault. IsLogFault bytes.now fault) }
+    // At a fault the sink took exactly the whole events; if the version is not known, it took nothing.
+    ensures whole { (at : ℕ) → result ≡ Err (faults.Bad at) → TakesWhole bytes.now S.takes sink.old sink.new }
+    ensures unread { (version : ℕ) → result ≡ Err (faults.Version version) → sink.new ≡ sink.old }
 {
     event_readers();
     events_in(alloc, bytes, sink)
@@ -84,10 +87,12 @@ pub fn log_events<S: LogSink>(
 /// Passes the events to the sink, as the plain readers read them.
 #[tactic(auto, unfolding(crate::specs::Reading::first_log_header))]
 fn events_in<S: LogSink>(alloc: Global, bytes: &[u8], sink: &mut S) -> Result<Outcome, FormatFault>
-    ensures { MatchResult result
+    ensures answer { MatchResult result
         (λ outcome. (content : List ℕ × Log) × IsLogRead bytes.now content
         × TakesLog S.takes sink.old sink.new content outcome)
         (λ fault. IsLogAnswer bytes.now (Err fault)) }
+    ensures whole { (at : ℕ) → result ≡ Err (faults.Bad at) → TakesWhole bytes.now S.takes sink.old sink.new }
+    ensures unread { (version : ℕ) → result ≡ Err (faults.Version version) → sink.new ≡ sink.old }
 {
     let (version, _) = header_of(&LOG_MAGIC, bytes)?;
     match log_start(bytes) {
@@ -105,9 +110,11 @@ fn events_after<S: LogSink>(
     sink: &mut S,
 ) -> Result<Outcome, FormatFault>
     requires { length start.now ≤ length bytes.now }
-    ensures { MatchResult result
+    ensures answer { MatchResult result
         (λ outcome. AreTakenToEnd version start.now S.takes sink.old sink.new outcome)
         (λ fault. IsItemsFault (plain.first_event version) plain.first_outcome bytes.now start.now fault) }
+    ensures whole { (at : ℕ) → result ≡ Err (faults.Bad at) → TakesEvents version start.now S.takes sink.old sink.new }
+    ensures unread { (found : ℕ) → result ≡ Err (faults.Version found) → sink.new ≡ sink.old }
 {
     event_readers();
     let left = whole_events(alloc, version, start, sink)?;

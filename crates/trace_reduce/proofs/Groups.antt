@@ -1,5 +1,5 @@
 -- Bytes in groups: what one more group has, sorted groups, and the bytes of all groups by their addresses.
-use Rattle.std.proofs.Common.{◌≡◌, ℕ, suc, zero, ◌+◌, ◌-◌, ◌*◌, ◌/◌, ◌%◌, ◌≤◌, ◌<◌, List, [], ◌∷◌, ◌++◌, length, drop, min, take, Option, Some, None, Bool, true, false, cond, nat_eq, nat_le, nat_lt, slice_get, unwrap_or, refl, sym, ap, ◌∙◌, subst, arith}
+use Rattle.std.proofs.Common.{◌≡◌, ℕ, suc, zero, ◌+◌, ◌-◌, ◌*◌, ◌/◌, ◌%◌, ◌≤◌, ◌<◌, List, [], ◌∷◌, ◌++◌, length, drop, min, take, Option, Some, None, Bool, true, false, cond, nat_eq, nat_lt, slice_get, unwrap_or, refl, sym, ap, ◌∙◌, subst, arith}
 use Rattle.std.specs.List.{filter}
 use Rattle.std.specs.List.Sorted.{IsNonDecreasingBy, ties}
 use Rattle.std.specs.Option.{option_flatten, option_or}
@@ -7,14 +7,13 @@ use Rattle.std.specs.Ordering.{is_lt, nat_cmp}
 use Rattle.std.proofs.lemmas.Bool.Decides.{nat_tests}
 use Rattle.std.proofs.lemmas.Option.{slice_get_past}
 use Rattle.std.proofs.lemmas.List.{length-append, length-take, take-append-drop}
-use Rattle.base.proofs.Lists.{get_front, get_after_by}
 use Rattle.base.proofs.Options.{or_none, or_assoc}
 pub use Rattle.history_spec.proofs.PlacedBytes.{byte_past as among_past}
 use Rattle.history_spec.proofs.PlacedBytes.{byte_below, byte_moved}
 use Rattle.record_replay_spec.specs.Known.{byte_among}
 use Rattle.trace_reduce.specs.declared.byte_groups.TheConstants.{GROUP}
 use Rattle.trace_reduce.specs.ByteGroups.{AreInOrder, TakesFront, both_slots, bytes_of, byte_at, group_byte, merged_from, merged_groups, slot_at, slot_bytes}
-use Rattle.trace_reduce.proofs.Bytes.{at_key, Ascend, none_below, among_within, among_before}
+use Rattle.trace_reduce.proofs.Bytes.{at_key, Ascend, none_below}
 
 -- ---- bytes among others
 

@@ -39,6 +39,10 @@ abbrev pub last_marks : Outcome → (called at_host : Bool) → (before marks : 
 last_marks Trapped true true before marks = before
 last_marks outcome called at_host before marks = marks
 
+-- an allocation failed, so the tape is lost
+abbrev pub HasLost : Reducer → Type 0
+HasLost reducer = reducer.progress ≡ Lost
+
 -- all events so far are balanced, and the reducer's state is that of these events; their count stays at the greatest
 -- number of 64 bits
 pub record IsInOrder (n : ℕ) (balance : Balance) (builder : TapeBuilder) (size count : ℕ) (taken : List Event)

@@ -1,12 +1,12 @@
 // The reducer: it takes events one after another, and keeps only the tape of their log.
 
-ghost use Rattle.std.specs.Prelude.{◌≡◌, ◌+◌, ◌∷◌, List, [], Some, None, is_none, OnOk, OnErr};
+ghost use Rattle.std.specs.Prelude.{◌≡◌, ◌+◌, ◌∷◌, List, [], Some, None, is_none, IsErr, OnOk, OnErr};
 ghost use Rattle.record_replay_spec.specs.LogTapes.{LogFrame, event_marks, import_marks, is_at_host};
 ghost use Rattle.trace_model.specs.Balance.{balanced_step};
 ghost use Rattle.trace_model.specs.Sink.{TookAlso};
 ghost use Rattle.trace_reduce.specs.Answers.{IsAnswer};
 ghost use Rattle.trace_reduce.specs.Builder.{TakesMarks, turn_marks};
-ghost use Rattle.trace_reduce.specs.Reducer.{HasTaken, HasTakenSince, TakesEvent, Reports, imports_of, log_frames, most_of};
+ghost use Rattle.trace_reduce.specs.Reducer.{HasLost, HasTaken, HasTakenSince, TakesEvent, Reports, imports_of, log_frames, most_of};
 ghost use Rattle.trace_reduce.specs.declared.reducer.Progress.TheVariants.{InOrder};
 
 use crate::builder::{TapeBuilder, Turn};
@@ -78,6 +78,7 @@ impl Reducer {
     /// tape with this limit of weight. Takes no memory.
     pub fn new(alloc: Global, imports: u32, most: u64) -> Reducer
         ensures taken { HasTaken result [] }
+        ensures keeps { HasLost result → ⊥ }
         ensures imports { imports_of result ≡ imports }
         ensures most { most_of result ≡ most }
     {
@@ -101,10 +102,13 @@ impl Reducer {
     /// Takes an event.
     ///
     /// # Errors
-    /// `NoMemory` if an allocation failed; the tape is lost then, and each later call fails so too.
+    /// `NoMemory` if an allocation failed; the tape is lost then and only then, and each later call fails so too.
     pub fn push(&mut self, event: Event) -> Result<(), NoMemory>
         ensures ok { OnOk result (TookAlso HasTakenSince self.old self.new (event ∷ [])) }
         ensures refused { OnErr result (TookAlso HasTakenSince self.old self.new []) }
+        ensures keeps { OnOk result (HasLost self.new → ⊥) }
+        ensures loses { OnErr result (HasLost self.new) }
+        ensures lost { HasLost self.old → IsErr result }
         ensures imports { imports_of self.new ≡ imports_of self.old }
         ensures most { most_of self.new ≡ most_of self.old }
     {
@@ -123,6 +127,7 @@ impl Reducer {
     /// Takes an event after balanced events.
     fn step(&mut self, event: Event) -> Result<(), NoMemory>
         ensures takes { OnOk result (self.old.progress ≡ InOrder → TakesEvent self.old event self.new) }
+        ensures keeps { OnOk result (HasLost self.new → HasLost self.old) }
         ensures imports { self.new.imports ≡ self.old.imports }
         ensures most { most_of self.new ≡ most_of self.old }
     {
@@ -137,6 +142,7 @@ impl Reducer {
     /// Passes an event to the tape, after the balance has taken it.
     fn report(&mut self, event: Event) -> Result<(), NoMemory>
         ensures reports { OnOk result (Reports self.old event self.new) }
+        ensures progress { self.new.progress ≡ self.old.progress }
         ensures imports { self.new.imports ≡ self.old.imports }
         ensures most { most_of self.new ≡ most_of self.old }
     {
@@ -186,7 +192,12 @@ impl EventSink for Reducer {
 
     ghost has_taken = { HasTakenSince };
 
-    fn event(&mut self, event: Event) -> Result<(), NoMemory> {
+    fn event(&mut self, event: Event) -> Result<(), NoMemory>
+        ensures ok { OnOk result (TookAlso HasTakenSince self.old self.new (event ∷ [])) }
+        ensures refused { OnErr result (TookAlso HasTakenSince self.old self.new []) }
+        ensures keeps { OnOk result (HasLost self.new → ⊥) }
+        ensures loses { OnErr result (HasLost self.new) }
+    {
         self.push(event)
     }
 }

@@ -33,6 +33,7 @@ files-preserved g c =
           (omega (arith, c.files.loaded.ok, c.files.invariant.all)) c.requires.each c.files-test.true
           c.files.invariant.within c.in_ok-load_file.ensures.short;
       contents_unchanged = c.in_ok-load_file.ensures.contents_unchanged ∙ c.files.invariant.contents_unchanged;
+      failed_none = λ other. c.in_ok-load_file.ensures.failed_none other ∙ c.files.invariant.failed_none other;
       faults_never_fall = λ other.
           omega (arith, c.files.invariant.faults_never_fall other, c.in_ok-load_file.ensures.faults_never_fall other);
       taken_never_falls = λ other.

@@ -1,4 +1,4 @@
-use Rattle.std.proofs.Common.{arith, take, drop, subst, length-drop}
+use Rattle.std.proofs.Common.{arith, take, drop, subst, length-drop, ◌∙◌}
 use Rattle.std.proofs.lemmas.List.{take_rest}
 use Rattle.r3_outside.specs.Growth.{Grew, GrewByPrefix}
 use Rattle.r3_faults.specs.Lines.{escaped}
@@ -24,6 +24,7 @@ runs-preserved g c =
     let within = rw (take_rest text done) at c.in_ok-done.ensures.within in
     record {
       within = omega (arith, within, length-drop done text);
+      failed_none = c.in_ok-done.ensures.failed_none ∙ c.runs.invariant.failed_none;
       faults_never_fall = omega (arith, c.in_ok-done.ensures.faults_never_fall);
       grew =
           subst (Grew _ _) (escaped-more text done count)

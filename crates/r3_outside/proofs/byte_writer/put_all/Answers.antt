@@ -1,4 +1,4 @@
-use Rattle.std.proofs.Common.{arith, length-drop}
+use Rattle.std.proofs.Common.{arith, length-drop, ◌∙◌}
 use Rattle.std.proofs.lemmas.List.{take_rest}
 use Rattle.r3_outside.proofs.GrowthLemmas.{Grew-more, GrewByPrefix-failed}
 use Rattle.r3_outside.proofs.byte_writer.put_all.Goals as goal
@@ -12,6 +12,7 @@ pieces-preserved g c =
     let wrote = rw (take_rest c.args.bytes.now c.pieces.done) at c.in-Ok.ensures.wrote in
     record {
       within = omega (arith, c.in-Ok.ensures.within_piece, length-drop c.pieces.done c.args.bytes.now);
+      failed_none = c.in-Ok.ensures.failed_none ∙ c.pieces.invariant.failed_none;
       faults_never_fall = omega (arith, c.in-Ok.ensures.faults_never_fall);
       grew = Grew-more _ _ _ c.args.bytes.now c.pieces.done _ c.pieces.invariant.grew wrote;
     }

@@ -13,6 +13,7 @@ pieces-preserved g c =
       within = omega arith;
       some = omega (arith, c.pieces.invariant.some, length-append c.read_at.new.into rest);
       contents_unchanged = c.in-Ok-read_at.ensures.contents_unchanged ∙ c.pieces.invariant.contents_unchanged;
+      failed_none = λ other. c.in-Ok-read_at.ensures.failed_none other ∙ c.pieces.invariant.failed_none other;
       faults_never_fall = λ other. omega (arith, c.pieces.invariant.faults_never_fall other, c.in-Ok-read_at.ensures.faults_never_fall other);
       taken_never_falls = λ other. omega (arith, c.pieces.invariant.taken_never_falls other, c.in-Ok-read_at.ensures.taken_never_falls other);
       took = omega (arith, c.in-Ok-read_at.ensures.took);

@@ -1,4 +1,4 @@
-use Rattle.std.proofs.Common.{◌≡◌, ◌+◌, ◌-◌, ◌<◌, ◌≤◌, length, take, vec_len}
+use Rattle.std.proofs.Common.{◌≡◌, ℕ, ◌+◌, ◌-◌, ◌<◌, ◌≤◌, List, length, take, vec_len}
 use Rattle.std.specs.Option.{ForSome}
 use Rattle.r3_outside.specs.Count.{Took, NoneFell}
 use Rattle.r3_outside.specs.Contents.{file_bytes}
@@ -9,6 +9,7 @@ invariant-pieces g l = record {
   within : vec_len l.bytes ≤ l.most;
   some : 0 < length l.piece;
   contents_unchanged : g.F.Files.contents l.files ≡ g.F.Files.contents l.initial.files;
+  failed_none : (other : List ℕ) → g.F.Files.faults l.files other ≡ g.F.Files.faults l.initial.files other;
   faults_never_fall : NoneFell (g.F.Files.faults l.initial.files) (g.F.Files.faults l.files);
   taken_never_falls : NoneFell (g.F.Files.taken l.initial.files) (g.F.Files.taken l.files);
   took : Took (g.F.Files.taken l.initial.files l.name) (g.F.Files.taken l.files l.name) (vec_len l.bytes);

@@ -1,4 +1,4 @@
-use Rattle.std.proofs.Common.{◌≡◌, ◌*◌, ◌-◌, ◌^◌, ◌<◌, ap, sym, ◌∙◌, subst, arith}
+use Rattle.std.proofs.Common.{◌≡◌, ◌*◌, ◌-◌, ◌^◌, ◌<◌, ap, sym, ◌∙◌, slice_index, subst, arith}
 use Rattle.wasm_syntax.specs.declared.limits.TheConstants.{PAGE_SIZE}
 use Rattle.history_spec.specs.Instantiation.{memory_limits}
 use Rattle.wasm_store.specs.Parts.{minimum_of}
@@ -18,8 +18,8 @@ take_datas-requires c =
     subst (λ imported. EndWithin imported (2 ^ 64 - 1) c.as_slice-2.result.now) (sym c.as_slice.ensures)
     (subst (λ datas. EndWithin supply.globals (2 ^ 64 - 1) datas) (sym c.as_slice-2.ensures) within)
 
-pub returns : goal.returns
-returns c store is =
+pub returns-clause-opens : goal.returns-clause-opens
+returns-clause-opens c store is =
     let m = c.args.module.now in
     let supply = c.args.supply.now in
     let parts = c.instantiated_parts.ensures m supply store is in
@@ -28,7 +28,11 @@ returns c store is =
     let held : HoldDatas supply.globals m.datas before after =
     subst (λ imported. HoldDatas imported m.datas before after) c.as_slice.ensures
     (subst (λ datas. HoldDatas c.as_slice.result.now datas before after) c.as_slice-2.ensures
-    c.in_ok-take_datas.ensures) in
+    c.in_ok-take_datas.ensures.taken) in
     opening_is m supply store parts after
     (held (new_bytes supply.globals (memory_limits m supply))
-    (new_same supply.globals (memory_limits m supply) before c.new-kept.ensures) (new_within m supply store parts))
+    (new_same supply.globals (memory_limits m supply) before c.new-kept.ensures.known) (new_within m supply store parts))
+
+pub returns-clause-frozen : goal.returns-clause-frozen
+returns-clause-frozen c at =
+    subst (λ frozen. slice_index frozen at ≡ 0) (sym c.take_datas.ensures.frozen) (c.new-kept.ensures.frozen at)

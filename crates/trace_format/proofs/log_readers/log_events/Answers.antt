@@ -11,5 +11,11 @@ returns g c =
     (TakesLog g.S.LogSink.takes c.args.sink.now c.events_in.new.sink)
     (λ outcome. IsLogTaken g.S.LogSink.takes bytes c.args.sink.now c.events_in.new.sink outcome)
     (λ content outcome read took. record { digest = content.0; log = content.1; spelled = read; taken = took })
-    c.events_in.result c.events_in.ensures in
-    record { found = reported.found; only = λ digest log read. reported.only (digest, log) read; fault = reported.fault }
+    c.events_in.result c.events_in.ensures.answer in
+    record {
+      found = reported.found;
+      only = λ digest log read. reported.only (digest, log) read;
+      fault = reported.fault;
+      whole = c.events_in.ensures.whole;
+      unread = c.events_in.ensures.unread;
+    }

@@ -1,6 +1,6 @@
-use Rattle.std.proofs.Common.{◌≡◌, ◌∙◌, ap, subst, refl, inl, Some, None, IsSome, arith}
-use Rattle.r3_outside.specs.NameCounts.{listed_under}
-use Rattle.r3_outside.proofs.CountLemmas.{listed_under-found, counts_from, with_number, with_number-updates, IsCountedFor-count, IsCountedFor-none_fell}
+use Rattle.std.proofs.Common.{◌≡◌, ◌∙◌, ap, subst, refl, inl, inr, Some, None, IsSome, arith}
+use Rattle.r3_outside.specs.NameCounts.{listed_under, with_unlisted}
+use Rattle.r3_outside.proofs.CountLemmas.{listed_under-found, not_listed, counts_from, with_number, with_number-updates, IsCountedFor-count, IsCountedFor-none_fell}
 use Rattle.r3_outside.proofs.counts.Counts.add.Goals as goal
 
 pub returns-in-Some-clause-counted : goal.returns-in-Some-clause-counted
@@ -38,3 +38,22 @@ returns-in-Ok-clause-count c = IsCountedFor-count _ _ _ _ (returns-in-Ok-clause-
 
 pub returns-in-Ok-clause-none_fell : goal.returns-in-Ok-clause-none_fell
 returns-in-Ok-clause-none_fell c = IsCountedFor-none_fell _ _ _ _ (returns-in-Ok-clause-counted c)
+
+pub returns-in-Err-clause-counted : goal.returns-in-Err-clause-counted
+returns-in-Err-clause-counted c =
+    inr (
+      not_listed c.args.self.now c.self.inside.listed c.self.inside.unlisted c.args.name.now c.self.view_is
+          c.in-None.ensures.value,
+      ap (counts_from c.self-in-None.inside.listed) c.saturating_add-self-inside.ensures
+          ∙ ap (λ counts. with_unlisted counts c.args.more)
+          (c.self-in-None.view_is
+          ∙ c.in-Err.ensures.err
+          ∙ ap (λ m. counts_from m c.self.inside.unlisted) c.get_mut.follows.holds-at-none
+          ∙ c.self.view_is),
+    )
+
+pub returns-in-Err-clause-count : goal.returns-in-Err-clause-count
+returns-in-Err-clause-count c = IsCountedFor-count _ _ _ _ (returns-in-Err-clause-counted c)
+
+pub returns-in-Err-clause-none_fell : goal.returns-in-Err-clause-none_fell
+returns-in-Err-clause-none_fell c = IsCountedFor-none_fell _ _ _ _ (returns-in-Err-clause-counted c)

@@ -21,8 +21,8 @@ invariant_of-result g c =
     record {
       typed =
           subst (λ order. HaveTypes order.shape.globals c.in_ok-tables.tables.globals) (sym c.new.ensures)
-          (types_at_start opened.0 c.in_ok-memory.memory c.in_ok-tables.tables (c.in_ok-memory.ensures opened.0 opened.1)
-          (c.in_ok-tables.ensures opened.0 opened.1) c.args.imports c.args.checked.now c.in_ok-shape.shape
+          (types_at_start opened.0 c.in_ok-memory.memory c.in_ok-tables.tables
+          (c.in_ok-memory.ensures.opens opened.0 opened.1) (c.in_ok-tables.ensures opened.0 opened.1) c.args.imports c.args.checked.now c.in_ok-shape.shape
           (c.in_ok-shape.ensures ∙ ap (parts_of c.args.imports) c.module.ensures.same)
           (c.requires.typed opened.0 opened.1));
     }
@@ -40,6 +40,6 @@ returns-clause-stands g c store is =
     })
     (shape_of c.args.imports c.args.checked.now) (order_start (table_length store.table)) (log_start store) 0)
     (sym c.new.ensures)
-    (stands_at_start store c.in_ok-memory.memory c.in_ok-tables.tables (c.in_ok-memory.ensures store is)
+    (stands_at_start store c.in_ok-memory.memory c.in_ok-tables.tables (c.in_ok-memory.ensures.opens store is)
     (c.in_ok-tables.ensures store is) c.args.imports c.args.checked.now c.in_ok-shape.shape c.args.sink
     (c.in_ok-shape.ensures ∙ ap (parts_of c.args.imports) c.module.ensures.same))
