@@ -79,9 +79,9 @@ def blocks_script():
     return json.dumps({"imports": {"host": {"block": {"calls": answers}}}, "main": main})
 
 
-def of_speed(name, few, many):
-    """The difference for a function of bench_speed, by machine instructions a turn."""
-    program, module = (os.path.join(SPEED, *path) for path in (("out", "bench_speed"), ("data", name + ".wasm")))
+def of_speed(module, name, few, many):
+    """The difference for a function of a module that the machine runs alone, by machine instructions a turn."""
+    program = os.path.join(SPEED, "out", "bench_speed")
     if not os.path.exists(program):
         return None
     counted = []
@@ -116,8 +116,11 @@ def program(name):
 
 def rows(r3, folder):
     """The rows, one after the other: what is measured, and its number if there is one."""
-    yield "the machine, a turn of a loop", of_speed("count", 20000, 120000)
-    yield "the machine, a turn of recursive calls", of_speed("fibonacci", 18, 22)
+    for what, name, few, many in (("a loop", "count", 20000, 120000), ("recursive calls", "fibonacci", 18, 22)):
+        module = os.path.join(SPEED, "data", name + ".wasm")
+        yield f"the machine, a turn of {what}", of_speed(module, name, few, many)
+    alone = os.path.join(HERE, "blocks_alone.wasm")
+    yield "the machine, a turn of `blocks` without its host", of_speed(alone, "run", 10, 40)
     blocks = [os.path.join(HERE, "blocks.wasm"), put(folder, "blocks.json", blocks_script())]
     yield "`make`, a turn of `blocks`", Spent(r3, "make", *blocks).a_turn()
     made = Spent(r3, "make", *program("hash"))

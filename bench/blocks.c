@@ -1,10 +1,20 @@
 // Counts the bytes of each block of 1,024 bytes that the host writes, sorts the counts a little, and mixes all of it
-// into one number. `bench/measure --aims` makes the script.
+// into one number. `bench/measure --aims` makes the script. With ALONE the program writes the blocks itself.
 #define BLOCK 1024
 #define KINDS 256
 #define REACH 8
 
+#ifdef ALONE
+static void block(unsigned char *to) {
+    static unsigned seed = 1;
+    for (int at = 0; at < BLOCK; at++) {
+        seed = seed * 1103515245u + 12345u;
+        to[at] = seed >> 20;
+    }
+}
+#else
 __attribute__((import_module("host"), import_name("block"))) void block(unsigned char *to);
+#endif
 
 static unsigned char bytes[BLOCK];
 static unsigned counts[KINDS];
