@@ -56,17 +56,18 @@ class Profile:
         return sum(count for function, count in counts.items() if function.startswith(name))
 
 
-def profile(words):
+def profile(words, check=False):
+    """The machine instructions of a command; with `check` its status must be 0."""
     with tempfile.NamedTemporaryFile("r", encoding="utf-8") as file:
         valgrind = ["valgrind", "--tool=callgrind", f"--callgrind-out-file={file.name}"]
-        subprocess.run([*valgrind, *words], stdout=subprocess.DEVNULL, stderr=subprocess.DEVNULL, check=False)
+        subprocess.run([*valgrind, *words], stdout=subprocess.DEVNULL, stderr=subprocess.DEVNULL, check=check)
         return Profile(file)
 
 
 def put(folder, name, content):
     file = os.path.join(folder, name)
-    with open(file, "w", encoding="utf-8") as target:
-        target.write(content)
+    with open(file, "wb") as target:
+        target.write(content if isinstance(content, bytes) else content.encode())
     return file
 
 
