@@ -46,6 +46,11 @@ def libraries():
     return {line.split(":")[0].split()[0]: line.split(":")[1].split() for line in lines if ":" in line}
 
 
+def static_libraries():
+    """The crates whose line marks them as `staticlib`."""
+    return re.findall(r"^(\w+) staticlib:", read("crates.txt"), re.M)
+
+
 def spec_files(crate):
     """The files of a crate's definitions, as `File` or `Folder/File`, in the order in which they build on each other."""
 
