@@ -1,4 +1,4 @@
-// A module that is instrumented, and played under its meter.
+// Modules that are instrumented, and one that is played under its meter.
 
 ghost use Rattle.std.specs.Prelude.{◌≤◌, IfOk, length};
 ghost use Rattle.wasm_syntax.specs.declared.limits.TheConstants.{MAX_FILE_BYTES};
@@ -42,41 +42,36 @@ fn hooked_of(alloc: Global, bytes: &[u8], digest: &[u8; 32]) -> Result<Instrumen
     }
 }
 
-/// The instrumented module of `C_BUFFERS`.
-fn hooked_buffers(alloc: Global) -> Result<InstrumentedModule, Fail>
+/// The instrumented module of bytes in hexadecimal, with a digest of bytes 7.
+pub(crate) fn with_hooks(alloc: Global, text: &str) -> Result<InstrumentedModule, Fail>
     ensures short { IfOk result (λ hooked. IsShort hooked.«module») }
     ensures runnable { IfOk result (λ hooked. IsRunnable hooked.«module») }
     ensures meter { IfOk result (λ hooked. FitsMeter hooked.«module» hooked.meter) }
 {
-    let bytes = hex::decode(alloc, C_BUFFERS)?;
+    let bytes = hex::decode(alloc, text)?;
     if bytes.len() > MAX_FILE_BYTES as usize {
         return Err(Fail::from("a long text"));
     }
     hooked_of(alloc, bytes.as_slice(), &[7; 32])
 }
 
+/// The run of the instrumented `C_BUFFERS` within a number of turns.
+fn run_of_buffers(alloc: Global, turns: u64) -> Result<Result<Outcome, PlayFault>, Fail> {
+    let hooked = with_hooks(alloc, C_BUFFERS)?;
+    played(
+        alloc,
+        &hooked.module,
+        &hooked.meter,
+        SCRIPT,
+        turns,
+        &mut NoHooks,
+    )
+}
+
 // The functions take 23 and 3 turns, the host one for the call and one for each write; hook calls take none.
 #[test]
 fn instrumented_modules_take_the_turns_of_their_originals(rt: HostRuntime) -> Result<(), Fail> {
-    let alloc = rt.alloc();
-    let hooked = hooked_buffers(alloc)?;
-    let within = played(
-        alloc,
-        &hooked.module,
-        &hooked.meter,
-        SCRIPT,
-        29,
-        &mut NoHooks,
-    )?;
-    assert!(rt; within == Ok(Outcome::Ended));
-    let short = played(
-        alloc,
-        &hooked.module,
-        &hooked.meter,
-        SCRIPT,
-        28,
-        &mut NoHooks,
-    )?;
-    assert!(rt; short == Err(PlayFault::Spent));
+    assert!(rt; run_of_buffers(rt.alloc(), 29)? == Ok(Outcome::Ended));
+    assert!(rt; run_of_buffers(rt.alloc(), 28)? == Err(PlayFault::Spent));
     Ok(())
 }

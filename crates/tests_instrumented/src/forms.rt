@@ -1,11 +1,14 @@
 // Which modules have the hooked form. The modules were encoded by hand.
 
+ghost use Rattle.wasm_flat.specs.Sizes.{IsShort};
+
 use hook_insert::hooked_form;
 use r3_inputs::{ModuleFile, module_in};
 use sample_inputs::{examples, hooked_modules};
 use std::alloc::Global;
 use std::test::Fail;
 use wasm_syntax::limits::MAX_INSTRUMENTED_BYTES;
+use wasm_validate::Checked;
 
 /// The custom section at the end of `hooked_modules::TWO_ANSWERS`: the digest, and the numbers of functions that the
 /// original imports and defines.
@@ -93,15 +96,22 @@ fn bytes_of(alloc: Global, module: &str, sections: &[&str]) -> Result<Vec<u8>, F
 }
 
 /// Whether a module has the form, of one function and one import, with a digest of bytes 7.
+fn is_form(checked: &Checked) -> bool
+    requires { IsShort checked.now }
+{
+    match hooked_form(checked) {
+        Ok(form) => form.digest == [7; 32] && form.imports == 1 && form.defined == 1,
+        Err(_) => false,
+    }
+}
+
+/// Whether a file is of a module that has the form, of one function and one import, with a digest of bytes 7.
 fn has_form(alloc: Global, bytes: &[u8]) -> Result<bool, Fail> {
     if bytes.len() > MAX_INSTRUMENTED_BYTES as usize {
         return Err(Fail::from("a long text"));
     }
     match module_in(alloc, ModuleFile::Instrumented, bytes) {
-        Ok(checked) => match hooked_form(&checked) {
-            Ok(form) => Ok(form.digest == [7; 32] && form.imports == 1 && form.defined == 1),
-            Err(_) => Ok(false),
-        },
+        Ok(checked) => Ok(is_form(&checked)),
         Err(_) => Err(Fail::from("a refused module")),
     }
 }

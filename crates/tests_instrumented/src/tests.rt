@@ -1,11 +1,10 @@
-use hook_insert::{InstrumentedModule, files_are_of_words, instrument};
-use r3_inputs::module_of;
+use crate::buffers::with_hooks;
+use hook_insert::InstrumentedModule;
 use sample_inputs::examples::{
     C_BUFFERS, COLLATZ, COPY_LOAD, FILL_PAST, FLOAT_GLOBAL, NESTED_CALL, TABLE_ENTRY, TWO_ANSWERS,
 };
 use std::alloc::Global;
 use std::test::Fail;
-use wasm_syntax::limits::MAX_FILE_BYTES;
 
 /// A module: its name, its bytes in hexadecimal; and for its instrumented module the number of instructions in
 /// its bodies, ends of blocks among them, of those that take a turn, of types, and of imports.
@@ -34,19 +33,6 @@ const BODY: &str = "[Const(Val { ty: I32, bits: 1 }), Call(2), Block(Some(I32)),
     Numeric(173), Call(1), Const(Val { ty: I32, bits: 0 }), Call(5), LocalGet(1), \
     Numeric(106), End, Const(Val { ty: I32, bits: 1 }), Call(3), End]";
 
-/// The instrumented module of bytes in hexadecimal.
-fn with_hooks(alloc: Global, text: &str) -> Result<InstrumentedModule, Fail> {
-    let bytes = hex::decode(alloc, text)?;
-    if bytes.len() > MAX_FILE_BYTES as usize {
-        return Err(Fail::from("a long text"));
-    }
-    files_are_of_words();
-    match module_of(alloc, bytes.as_slice()) {
-        Ok(checked) => Ok(instrument(alloc, &checked, &[7; 32])?),
-        Err(_) => Err(Fail::from("a refused module")),
-    }
-}
-
 /// The figures of an instrumented module, as a row has them.
 fn figures(hooked: &InstrumentedModule) -> [usize; 4] {
     let mut instructions = 0;
@@ -65,11 +51,16 @@ fn figures(hooked: &InstrumentedModule) -> [usize; 4] {
     [instructions, turns, types, imports]
 }
 
+/// The figures of the instrumented module of bytes in hexadecimal.
+fn figures_of(alloc: Global, text: &str) -> Result<[usize; 4], Fail> {
+    let hooked = with_hooks(alloc, text)?;
+    Ok(figures(&hooked))
+}
+
 #[test]
 fn instrumented_modules_have_these_figures(rt: HostRuntime) -> Result<(), Fail> {
     for &(name, text, want) in ROWS {
-        let hooked = with_hooks(rt.alloc(), text)?;
-        if figures(&hooked) != want {
+        if figures_of(rt.alloc(), text)? != want {
             return Err(Fail::new(format_args!("{name}")));
         }
     }

@@ -304,9 +304,9 @@ fn merged(alloc: Heap) -> Result<Checked, Fail>
     ensures { IfOk result (λ replay. replay ≡ written.handmade_replay) }
 {
     handmade_part_fits();
-    let module = Checked::new(original(alloc)?);
     let supply = supply(alloc)?;
     let part = part(alloc)?;
+    let module = Checked::new(original(alloc)?);
     Ok(merge(alloc, module, &supply, part)?)
 }
 

@@ -38,43 +38,77 @@ fn printed_by(alloc: Global, words: &[&str], files: &mut MemFiles) -> Result<Vec
     Err(Fail::new(format_args!("{line}")))
 }
 
-/// What `build` prints if `instrument`, `record`, `reduce` and `build` each take what the command before
-/// printed.
+/// Puts what a call with these words prints into a file.
 ///
 /// # Errors
 ///
 /// The errors of `printed_by`.
-fn built(alloc: Global, files: &mut MemFiles) -> Result<Vec<u8>, Fail> {
-    let hooked = printed_by(alloc, &["instrument", "m"], files)?;
-    files.add("h", hooked.as_slice())?;
-    let log = printed_by(alloc, &["record", "h", "s", MAX], files)?;
-    files.add("l", log.as_slice())?;
-    let tape = printed_by(alloc, &["reduce", "l"], files)?;
-    files.add("t", tape.as_slice())?;
-    printed_by(alloc, &["build", "m", "s", "t"], files)
+fn put(alloc: Global, files: &mut MemFiles, name: &str, words: &[&str]) -> Result<(), Fail> {
+    let printed = printed_by(alloc, words, files)?;
+    files.add(name, printed.as_slice())?;
+    Ok(())
+}
+
+/// Whether a call with these words prints these bytes.
+///
+/// # Errors
+///
+/// The errors of `printed_by`.
+fn prints(
+    alloc: Global,
+    files: &mut MemFiles,
+    words: &[&str],
+    wanted: &[u8],
+) -> Result<bool, Fail> {
+    let printed = printed_by(alloc, words, files)?;
+    Ok(printed.as_slice() == wanted)
+}
+
+/// Puts into the file `t` what `reduce` prints if `instrument`, `record` and `reduce` each take what the command
+/// before printed.
+///
+/// # Errors
+///
+/// The errors of `printed_by`.
+fn put_tape(alloc: Global, files: &mut MemFiles) -> Result<(), Fail> {
+    put(alloc, files, "h", &["instrument", "m"])?;
+    put(alloc, files, "l", &["record", "h", "s", MAX])?;
+    put(alloc, files, "t", &["reduce", "l"])
+}
+
+/// Puts what `make` prints for a row into the file `r`, and compares it with a second call and with what the
+/// commands for its parts print.
+fn check_bytes(alloc: Global, files: &mut MemFiles, row: Row<'_>) -> Result<(), Fail> {
+    let words = ["make", "m", "s", row.turns];
+    let replay = printed_by(alloc, &words, files)?;
+    if !prints(alloc, files, &words, &replay)? {
+        return Err(Fail::new(format_args!("{}: made again it is another", row.name)));
+    }
+    put_tape(alloc, files)?;
+    if !prints(alloc, files, &["build", "m", "s", "t"], &replay)? {
+        return Err(Fail::new(format_args!("{}: its parts make another", row.name)));
+    }
+    files.add("r", replay.as_slice())?;
+    Ok(())
+}
+
+/// Compares the lines of the replay module in the file `r` with the row.
+fn check_lines(alloc: Global, files: &mut MemFiles, row: Row<'_>) -> Result<(), Fail> {
+    let shown = printed_by(alloc, &["replay", "r", MAX], files)?;
+    let wanted = row.text(alloc)?;
+    if shown.as_slice() == wanted.as_bytes() {
+        return Ok(());
+    }
+    let lines = String::from_utf8_lossy(alloc, shown.as_slice())?;
+    Err(Fail::new(format_args!("{}: {lines}", row.name)))
 }
 
 /// Compares what `make` prints for a row with the row, with a second call and with what the commands for its
 /// parts print.
 fn check_row(alloc: Global, module: &[u8], row: Row<'_>) -> Result<(), Fail> {
     let mut files = files_with(alloc, module, row.script.as_bytes())?;
-    let replay = printed_by(alloc, &["make", "m", "s", row.turns], &mut files)?;
-    let again = printed_by(alloc, &["make", "m", "s", row.turns], &mut files)?;
-    if again.as_slice() != replay.as_slice() {
-        return Err(Fail::new(format_args!("{}: made again it is another", row.name)));
-    }
-    let parts = built(alloc, &mut files)?;
-    if parts.as_slice() != replay.as_slice() {
-        return Err(Fail::new(format_args!("{}: its parts make another", row.name)));
-    }
-    files.add("r", replay.as_slice())?;
-    let shown = printed_by(alloc, &["replay", "r", MAX], &mut files)?;
-    let wanted = row.text(alloc)?;
-    if shown.as_slice() != wanted.as_bytes() {
-        let lines = String::from_utf8_lossy(alloc, shown.as_slice())?;
-        return Err(Fail::new(format_args!("{}: {lines}", row.name)));
-    }
-    Ok(())
+    check_bytes(alloc, &mut files, row)?;
+    check_lines(alloc, &mut files, row)
 }
 
 #[test]
@@ -107,19 +141,22 @@ fn lines_in(text: &[u8]) -> u64 {
     lines
 }
 
+/// Files with the module and the script of a load of 20,000 calls.
+fn files_of_load(alloc: Global) -> Result<MemFiles, Fail> {
+    let (module, script) = make_load(alloc, 20_000)?;
+    files_with(alloc, module.as_slice(), script.as_slice())
+}
+
 /// A run of 346,252 turns, in which the host writes and is called 20,000 times.
 #[test]
 fn a_load_of_20000_calls(rt: HostRuntime) -> Result<(), Fail> {
     let alloc = rt.alloc();
-    let (module, script) = make_load(alloc, 20_000)?;
-    let mut files = files_with(alloc, module.as_slice(), script.as_slice())?;
-    let replay = printed_by(alloc, &["make", "m", "s", "346252"], &mut files)?;
+    let mut files = files_of_load(alloc)?;
+    put(alloc, &mut files, "r", &["make", "m", "s", "346252"])?;
     let reported = printed_by(alloc, &["history", "m", "s", "346252"], &mut files)?;
-    files.add("r", replay.as_slice())?;
-    let shown = printed_by(alloc, &["replay", "r", MAX], &mut files)?;
-    assert!(rt; shown.as_slice() == reported.as_slice());
+    assert!(rt; prints(alloc, &mut files, &["replay", "r", MAX], &reported)?);
     // each entry has a line, and so has the outcome
-    assert_eq!(rt; lines_in(shown.as_slice()), 367_504);
+    assert_eq!(rt; lines_in(&reported), 367_504);
     Ok(())
 }
 

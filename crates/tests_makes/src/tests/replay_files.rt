@@ -68,6 +68,26 @@ fn original_lines(alloc: Global, text: &[u8]) -> Result<Vec<u8>, Fail> {
     Ok(kept)
 }
 
+/// Whether the run of a printed module takes `own` turns, and not one less, which is `spent`.
+fn takes_own_turns(alloc: Global, printed: &[u8], spent: &str, own: &str) -> Result<bool, Fail> {
+    let short = run_of_replay(alloc, printed, spent)?.status;
+    let whole = run_of_replay(alloc, printed, own)?.status;
+    Ok(short == 12 && whole == 0)
+}
+
+/// The lines of the run of a printed module on function 1, and the outcome.
+fn replayed_lines(alloc: Global, printed: &[u8], turns: &str) -> Result<Vec<u8>, Fail> {
+    let replay = run_of_replay(alloc, printed, turns)?;
+    original_lines(alloc, &replay.printed)
+}
+
+/// Whether function 1 does in the run of a printed module what it does by the lines of a history.
+fn follows(alloc: Global, printed: &[u8], turns: &str, history: &[u8]) -> Result<bool, Fail> {
+    let same = replayed_lines(alloc, printed, turns)?;
+    let original = original_lines(alloc, history)?;
+    Ok(original.as_slice() == same.as_slice())
+}
+
 /// Whether the printed module of a run within `turns` is valid, its own run takes `own` turns, and not one less,
 /// which is `spent`, and function 1 does in it what it does in the run of the original.
 fn is_replay(
@@ -80,16 +100,11 @@ fn is_replay(
 ) -> Result<bool, Fail> {
     let printed = outcome_of_command(alloc, "make", module, script, turns)?.printed;
     let history = outcome_of_command(alloc, "history", module, script, turns)?.printed;
-    let short = run_of_replay(alloc, &printed, spent)?;
-    let replay = run_of_replay(alloc, &printed, own)?;
-    let original = original_lines(alloc, &history)?;
-    let same = original_lines(alloc, &replay.printed)?;
-    Ok(
-        is_valid(alloc, &printed)
-            && short.status == 12
-            && replay.status == 0
-            && original.as_slice() == same.as_slice(),
-    )
+    if is_valid(alloc, &printed) && takes_own_turns(alloc, &printed, spent, own)? {
+        follows(alloc, &printed, own, &history)
+    } else {
+        Ok(false)
+    }
 }
 
 #[test]

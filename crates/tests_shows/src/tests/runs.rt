@@ -1,5 +1,6 @@
 //! Runs and their budgets.
 
+use crate::tests::replay_calls::is_shown;
 use r3_outside::MemFiles;
 use sample_commands::calls::{files_of, outcome_of, outcome_of_command};
 use sample_inputs::examples::{
@@ -46,7 +47,12 @@ fn the_most_turns_are_taken(rt: HostRuntime) -> Result<(), Fail> {
         assert_eq!(rt; answer.status, 0, "{turns}");
         assert_eq!(rt; answer.printed.as_slice(), wanted.as_slice(), "{turns}");
     }
-    let history = outcome_of_command(alloc, "history", TWO_ANSWERS, ANSWERS, "2000000")?;
+    Ok(())
+}
+
+#[test]
+fn the_most_turns_of_a_history_are_taken(rt: HostRuntime) -> Result<(), Fail> {
+    let history = outcome_of_command(rt.alloc(), "history", TWO_ANSWERS, ANSWERS, "2000000")?;
     assert!(rt; history.is_done());
     Ok(())
 }
@@ -96,16 +102,29 @@ fn turns_are_spent(rt: HostRuntime) -> Result<(), Fail> {
 }
 
 #[test]
+fn turns_of_no_form(rt: HostRuntime) -> Result<(), Fail> {
+    let rows = [
+        ("make", "0"),
+        ("make", "04"),
+        ("make", "1000000001"),
+        ("make", ""),
+        ("make", "+4"),
+        ("make", "99999999999999999999"),
+        ("history", "0"),
+        ("history", "04"),
+        ("history", "2000001"),
+        ("history", "1000000000"),
+    ];
+    for (command, turns) in rows {
+        let answer = outcome_of_command(rt.alloc(), command, TWO_ANSWERS, ANSWERS, turns)?;
+        assert!(rt; answer.is_refused(2, "usage\n"), "{command} {turns}");
+    }
+    Ok(())
+}
+
+#[test]
 fn words_of_no_form(rt: HostRuntime) -> Result<(), Fail> {
     let alloc = rt.alloc();
-    for turns in ["0", "04", "1000000001", "", "+4", "99999999999999999999"] {
-        let answer = outcome_of_command(alloc, "make", TWO_ANSWERS, ANSWERS, turns)?;
-        assert!(rt; answer.is_refused(2, "usage\n"), "{turns}");
-    }
-    for turns in ["0", "04", "2000001", "1000000000"] {
-        let answer = outcome_of_command(alloc, "history", TWO_ANSWERS, ANSWERS, turns)?;
-        assert!(rt; answer.is_refused(2, "usage\n"), "{turns}");
-    }
     let words: [&[&str]; 4] = [
         &[],
         &["make", "m.wasm"],
@@ -129,16 +148,12 @@ const CALLING: &str = concat!(
 /// Whether the run of the module that `make` prints within 100 turns shows what `history` prints.
 fn shows_its_history(alloc: Global, module: &str, script: &str) -> Result<bool, Fail> {
     let made = outcome_of_command(alloc, "make", module, script, "100")?;
-    let mut files = MemFiles::new(alloc, Vec::new(alloc));
-    files.add("r.wasm", made.printed.as_slice())?;
-    let shown = outcome_of(alloc, &["replay", "r.wasm", "20000000"], &mut files)?;
     let history = outcome_of_command(alloc, "history", module, script, "100")?;
-    Ok(
-        made.is_done()
-            && shown.is_done()
-            && history.is_done()
-            && shown.printed.as_slice() == history.printed.as_slice(),
-    )
+    if made.is_done() && history.is_done() {
+        is_shown(alloc, &made.printed, &history.printed)
+    } else {
+        Ok(false)
+    }
 }
 
 #[test]

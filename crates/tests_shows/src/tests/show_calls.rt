@@ -177,6 +177,13 @@ const WHOLE_PARTS: [(&str, &str, usize, &[usize]); 2] = [
     (TAPE, TAPE_OF_TWO_ANSWERS, 66, &[37, 42, 52, 62, 65]),
 ];
 
+/// Whether `show` finds the fault of a file of these bytes at a place.
+fn is_bad_at(alloc: Global, bytes: &[u8], at: usize) -> Result<bool, Fail> {
+    let line = format!(in alloc; "trace: bad at {at}\n")?;
+    let answer = outcome_of_show(alloc, bytes)?;
+    Ok(answer.is_refused(15, line.as_str()))
+}
+
 #[test]
 fn every_proper_front(rt: HostRuntime) -> Result<(), Fail> {
     let alloc = rt.alloc();
@@ -185,17 +192,29 @@ fn every_proper_front(rt: HostRuntime) -> Result<(), Fail> {
         assert_eq!(rt; bytes.len(), total);
         for length in 0..bytes.len() {
             let at = place_within(places, length);
-            let line = format!(in alloc; "trace: bad at {at}\n")?;
-            let answer = outcome_of_show(alloc, &bytes[..length])?;
-            assert!(rt; answer.is_refused(15, line.as_str()), "{length}");
+            assert!(rt; is_bad_at(alloc, &bytes[..length], at)?, "{length}");
         }
     }
     Ok(())
 }
 
+/// A file `t` with a log. Some reads fail.
+fn log_file(alloc: Global, failing: Vec<u64>) -> Result<MemFiles, Fail> {
+    let bytes = file_of(alloc, LOG, "02", LOG_OF_TWO_ANSWERS)?;
+    let mut files = MemFiles::new(alloc, failing);
+    files.add("t", bytes.as_slice())?;
+    Ok(files)
+}
+
+/// The outcome of a call over `log_file`.
+fn outcome_over_log(alloc: Global, words: &[&str], failing: &[u64]) -> Result<Outcome, Fail> {
+    let failing = Vec::from_slice(alloc, failing)?;
+    let mut files = log_file(alloc, failing)?;
+    outcome_of(alloc, words, &mut files)
+}
+
 #[test]
 fn words_and_files_of_show(rt: HostRuntime) -> Result<(), Fail> {
-    let alloc = rt.alloc();
     let rows: [(&[&str], &[u64], u8, &str); 5] = [
         (&["show"], &[], 2, "usage\n"),
         (&["show", "t", "1"], &[], 2, "usage\n"),
@@ -204,12 +223,7 @@ fn words_and_files_of_show(rt: HostRuntime) -> Result<(), Fail> {
         (&["show", "u"], &[], 3, "read: u\n"),
     ];
     for (words, failing, status, line) in rows {
-        let mut files = MemFiles::new(alloc, Vec::from_slice(alloc, failing)?);
-        files.add(
-            "t",
-            file_of(alloc, LOG, "02", LOG_OF_TWO_ANSWERS)?.as_slice(),
-        )?;
-        let answer = outcome_of(alloc, words, &mut files)?;
+        let answer = outcome_over_log(rt.alloc(), words, failing)?;
         assert!(rt; answer.is_refused(status, line), "{line}");
     }
     Ok(())
@@ -218,11 +232,7 @@ fn words_and_files_of_show(rt: HostRuntime) -> Result<(), Fail> {
 #[test]
 fn the_second_write_of_show_fails(rt: HostRuntime) -> Result<(), Fail> {
     let alloc = rt.alloc();
-    let mut files = MemFiles::new(alloc, Vec::new(alloc));
-    files.add(
-        "t",
-        file_of(alloc, LOG, "02", LOG_OF_TWO_ANSWERS)?.as_slice(),
-    )?;
+    let mut files = log_file(alloc, Vec::new(alloc))?;
     let answer = outcome_cut(alloc, &["show", "t"], &mut files)?;
     assert!(rt; answer.is_cut(b"log 000102"));
     Ok(())
