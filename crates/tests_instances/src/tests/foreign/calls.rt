@@ -2,6 +2,7 @@
 
 use crate::tests::calls::replay_of;
 use r3_outside::MemFiles;
+use sample_commands::calls;
 use sample_commands::calls::{Outcome, outcome_of};
 use std::alloc::Global;
 use std::test::Fail;
@@ -16,10 +17,8 @@ pub(crate) struct Texts<'a> {
 
 /// The files of a call.
 pub(crate) fn files_of(alloc: Global, texts: Texts<'_>) -> Result<MemFiles, Fail> {
-    let mut files = MemFiles::new(alloc, Vec::new(alloc));
-    files.add("m.wasm", hex::decode(alloc, texts.module)?.as_slice())?;
+    let mut files = calls::files_of(alloc, texts.module, texts.script, Vec::new(alloc))?;
     files.add("d.json", texts.decls.as_bytes())?;
-    files.add("s.json", texts.script.as_bytes())?;
     Ok(files)
 }
 
