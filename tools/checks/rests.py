@@ -33,6 +33,78 @@ WRITER = example("overwrite.wasm")
 WRITES = b"""{"imports":{"h":{"f":{"calls":[{"do":[{"write":8,"bytes":"aabbccdd"}]},{}]}}},
 "main":[{"call":"g"},{"call":"g"}]}"""
 
+# The same scripts with other white space.
+SPACED_SCRIPT = b"""{"imports":{"h":{"f":{"calls":[{"return":{"i32":5}},{"return":{"i32":7}},
+    {"return":{"i32":1}},{"return":{"i32":2}}]}}},"main":[{"call":"g"},{"call":"g"}]}"""
+SPACED_WRITES = b"""{"imports":{"h":{"f":{"calls":[{"do":[{"write":8,"bytes":"aabbccdd"}]},{}]}}},
+    "main":[{"call":"g"},{"call":"g"}]}"""
+
+# The lines of the second call of the writer: the two bytes of the host that the first call read are there.
+KNOWN_LINES = b"""host-call 1
+step 1 0 ->
+import-call 0
+import-return 0
+step 1 1 -> i32:00000008
+step 1 2 -> i32:00000001
+step 1 3 i32:00000008 i32:00000001 ->
+step 1 4 -> i32:00000008
+step 1 5 i32:00000008 -> i32:ddcc0001
+host-return 1 i32:ddcc0001
+ended
+"""
+
+# A module that imports `h.f`, has a mutable global, and exports `g`, which adds 1 to the global and calls `f`. Its
+# start function calls `g`.
+# (module (type (func)) (import "h" "f" (func (type 0)))
+#   (func (type 0) global.get 0 i32.const 1 i32.add global.set 0 call 0) (func (type 0) call 1)
+#   (global (mut i32) (i32.const 5)) (export "g" (func 1)) (start 2))
+STARTED = bytes.fromhex(
+    # the header
+    "0061736d01000000"
+    # type 0: no parameters, no results
+    "010401600000"
+    # the import h.f of type 0
+    "020701016801660000"
+    # functions 1 and 2 of type 0
+    "0303020000"
+    # global 0: a mutable i32 that begins with 5
+    "0606017f0141050b"
+    # the export g, function 1
+    "07050101670001"
+    # the start function 2
+    "080102"
+    # the bodies
+    "0a12020b00230041016a240010000b040010010b"
+)
+
+# One more call of `g` after the start function, and its lines: the start function left 6 in the global.
+ONE_MORE = b'{"imports":{"h":{"f":{"rest":{}}}},"main":[{"call":"g"}]}'
+LINES_AFTER_START = b"""host-call 1
+step 1 0 -> i32:00000006
+step 1 1 -> i32:00000001
+step 1 2 i32:00000006 i32:00000001 -> i32:00000007
+step 1 3 i32:00000007 ->
+step 1 4 ->
+import-call 0
+import-return 0
+host-return 1
+ended
+"""
+
+# Scripts for the adder, turns, the number of a call, and the status and the line.
+REFUSED = [
+    (SPACED_SCRIPT, "8", "2", 22, "no call: 2 of 2"),
+    (SPACED_SCRIPT, "8", "1000000000", 22, "no call: 1000000000 of 2"),
+    (SPACED_SCRIPT, "7", "2", 12, "turns spent: 7"),
+    (b'{"main":[{"call":"g"}]}', "8", "9", 11, "script fault: turn 2 no response"),
+    (b'{"main":[]}', "8", "0", 22, "no call: 0 of 0"),
+    (b"{", "8", "0", 9, "script: not json"),
+    (SPACED_SCRIPT, "8", "1000000001", 2, "usage"),
+    (SPACED_SCRIPT, "8", "01", 2, "usage"),
+    (SPACED_SCRIPT, "8", "", 2, "usage"),
+    (SPACED_SCRIPT, "0", "0", 2, "usage"),
+]
+
 # The data section with one active segment: the bytes 01 00 cc dd at 8.
 DATA = bytes.fromhex("0b0a01 00 41080b 04 0100ccdd")
 
@@ -122,8 +194,38 @@ def check_state(group):
     group.expect(replay.count(DATA) == 1, "the state module has one data segment")
 
 
+def made_of(group, name, module, script, turns, number):
+    """What `from` prints for a module, a script, turns and the number of a call."""
+    files = group.put(name + ".wasm", module), group.put(name + ".json", script)
+    return group.done("from", *files, turns, number)
+
+
+def check_lines(group):
+    """The lines of second calls alone; a start function is the first call."""
+    runs = [
+        ("spaced", ADDER, SPACED_SCRIPT, "8", LINES),
+        ("spaced_writer", WRITER, SPACED_WRITES, "15", KNOWN_LINES),
+        ("started", STARTED, ONE_MORE, "100", LINES_AFTER_START),
+    ]
+    for name, module, script, turns, lines in runs:
+        replay = group.put(name + ".replay.wasm", made_of(group, name, module, script, turns, "1"))
+        group.expect(group.done("replay", replay, "1000") == lines, f"{name}: the second call is replayed alone")
+    replay = group.put("started.whole.wasm", made_of(group, "started", STARTED, ONE_MORE, "100", "0"))
+    begin = b"host-call 2\nstep 2 0 ->\nenter 1\n"
+    group.expect(group.done("replay", replay, "1000").startswith(begin), "the call of the start function is replayed")
+
+
+def check_causes(group):
+    """The first cause is reported."""
+    for script, turns, number, status, line in REFUSED:
+        files = group.put("cause.wasm", ADDER), group.put("cause.json", script)
+        group.refused(["from", *files, turns, number], status, line)
+
+
 def checks(group):
     check_run(group)
+    check_lines(group)
+    check_causes(group)
     check_order(group)
     check_examples(group)
     check_state(group)

@@ -10,15 +10,23 @@ import tempfile
 import threading
 
 sys.dont_write_bytecode = True
+import builds
+import calls
 import captures
 import engines
 import examples
 import files
+import instances
 import large
+import long_runs
 import memory
+import module_answers
 import pairs
 import prefixes
+import projections
+import replay_bytes
 import rests
+import run_tables
 import statuses
 import wrapper
 from group import Group
@@ -33,6 +41,13 @@ CHAINS = [
     [("the script ./r3", wrapper.checks)],
     [("words and numbers", statuses.words), ("statuses and lines", statuses.checks)],
     [("files and outputs that fail", files.checks)],
+    [("single calls", calls.checks)],
+    [("millions of turns", long_runs.checks)],
+    [("small modules", module_answers.checks)],
+    [("lines of runs", run_tables.histories), ("runs made again", run_tables.makes)],
+    [("bytes of replay modules", replay_bytes.checks), ("runs of replay modules", projections.checks)],
+    [("tapes written by hand", builds.checks)],
+    [("pairs and foreign functions", instances.checks)],
 ]
 
 

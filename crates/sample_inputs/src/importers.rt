@@ -1,10 +1,5 @@
 // Modules that import functions and are not in `examples/`.
 
-/// A function that divides 100 by the result of its import.
-pub const DIVISION: &str =
-    // (module (import "h" "f" (func (result i32))) (func (export "g") (result i32) i32.const 100 call 0 i32.div_u))
-    "0061736d010000000105016000017f02070101680166000003020100070501016700010a0a01080041e40010006e0b";
-
 /// Imports the functions `h.f` of type `[i32 i64] -> [i32]` and `h.v` of type `[] -> []`, two functions `h.p` of types
 /// `[i64 i32] -> []` and `[i32 i32] -> []`, two functions `h.r` with the results i32 and i64, and the globals `h.g`
 /// (mutable i32), `h.k` (i64) and `a/b.c~d` (f32). Exports a table `tab`, a memory `mem`, the globals `x` (mutable f64)
@@ -29,18 +24,3 @@ pub const EXPORTED_IMPORT: &str =
     // (module (import "h" "f" (func (result i32))) (func (result i32) call 0 call 0 i32.add)
     //   (export "g" (func 0)))
     "0061736d010000000105016000017f02070101680166000003020100070501016700000a09010700100010006a0b";
-
-/// A function that calls two imports in turn.
-pub const IN_TURN: &str =
-    // (module (import "h" "f" (func (result i32))) (import "h" "g" (func (result i32)))
-    //   (func (export "run") (result i32) call 0 call 1 call 0 call 1 i32.sub i32.sub i32.sub))
-    "0061736d010000000105016000017f020d02016801660000016801670000030201000707010372756e0002\
-     0a0f010d0010001001100010016b6b6b0b";
-
-/// A loop that adds the results of 200 calls of its import.
-pub const LOOP: &str =
-    // (module (import "h" "f" (func (result i32)))
-    //   (func (export "g") (result i32) (local i32 i32) loop local.get 0 call 0 i32.add local.set 0
-    //     local.get 1 i32.const 1 i32.add local.tee 1 i32.const 200 i32.lt_u br_if 0 end local.get 0))
-    "0061736d010000000105016000017f0207010168016600000302010007050101670001\
-     0a1f011d01027f0340200010006a2100200141016a220141c801490d000b20000b";

@@ -1,6 +1,5 @@
-//! Tests alone: calls of the commands with their statuses and lines of error, over files and sinks that can
-//! fail, for modules and scripts that are refused, and for large ones; and these files and sinks, of the system and in
-//! memory, if no contract says what a file contained or what was written. All was worked out by hand.
+//! Tests alone: calls of the commands over files and sinks that can fail; and these files and sinks, of the system and
+//! in memory, if no contract says what a file contained or what was written. All was worked out by hand.
 #![tactic(auto)]
 
 #[cfg(test)]

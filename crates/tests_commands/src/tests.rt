@@ -1,9 +1,8 @@
 //! Calls of the commands by subject, and the files and sinks that they are over.
 
+mod calls;
 mod damages;
+mod failing_calls;
 mod faults;
 mod files;
-mod large;
 mod long_contents;
-mod modules;
-mod scripts;

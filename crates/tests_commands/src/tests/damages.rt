@@ -1,11 +1,10 @@
 //! Damage and failure, case by case: prefixes of a module, reads that fail, bytes of output that are refused.
 
-use r3_outside::{MemFiles, MemSink};
-use sample_commands::calls::{
+use crate::tests::calls::{
     Outcome, files_of, outcome_into, outcome_of, outcome_of_command, texts_of,
 };
-use sample_commands::places::place_within;
-use sample_commands::r3;
+use r3_core::r3;
+use r3_outside::{MemFiles, MemSink};
 use sample_inputs::examples::{C_BUFFERS, TWO_ANSWERS};
 use sample_inputs::scripts::ANSWERS;
 use std::alloc::Global;
@@ -19,6 +18,17 @@ const BUFFERS: &str = concat!(
 
 /// The places at which the header of `C_BUFFERS` ends, and each of its sections but the last.
 const ENDS: [usize; 9] = [8, 27, 41, 46, 53, 58, 68, 86, 95];
+
+/// The greatest of the places that is not past the length; 0 if the length is before all of them.
+fn place_within(places: &[usize], length: usize) -> usize {
+    let mut found = 0;
+    for place in places {
+        if *place <= length {
+            found = *place;
+        }
+    }
+    found
+}
 
 /// The status and the line for a prefix of `C_BUFFERS`. Some prefixes are modules, without the exports that the
 /// script names.

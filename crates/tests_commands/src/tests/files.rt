@@ -1,8 +1,8 @@
 //! Files and sinks that fail, and files that are too long.
 
+use crate::tests::calls::{Outcome, files_of, outcome_cut, outcome_into, outcome_of, texts_of};
+use r3_core::r3_in_memory;
 use r3_outside::{MemFiles, MemSink, SureFiles, SureSink};
-use sample_commands::calls::{Outcome, files_of, outcome_cut, outcome_into, outcome_of, texts_of};
-use sample_commands::r3_in_memory;
 use sample_inputs::examples::TWO_ANSWERS;
 use sample_inputs::scripts::ANSWERS;
 use std::alloc::Global;

@@ -1,4 +1,0 @@
-mod calls;
-mod modules;
-mod refusals;
-mod runs;

@@ -1,5 +1,0 @@
-mod calls;
-mod links;
-mod modules;
-mod refusals;
-mod runs;

@@ -1,0 +1,3 @@
+//! Replay modules of generated parts.
+
+mod handmade_parts;
