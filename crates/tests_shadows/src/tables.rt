@@ -13,34 +13,62 @@ fn tables_of(alloc: Global) -> Result<ShadowTables, Fail> {
     Ok(ShadowTables::of_opening(alloc, &checked, &supply)?)
 }
 
-#[test]
-fn new_entries_are_known_as_empty(rt: HostRuntime) -> Result<(), Fail> {
-    let mut tables = tables_of(rt.alloc())?;
-    assert!(rt; tables.known_size() == 2);
+/// Whether entries that a growth makes are known as empty, and the others as they were.
+fn knows_new_entries(alloc: Global) -> Result<bool, Fail> {
+    let mut tables = tables_of(alloc)?;
+    if tables.known_size() != 2 {
+        return Ok(false);
+    }
     tables.take_entry(1, Some(5));
     tables.set_known_size(4)?;
-    assert!(rt; tables.known_size() == 4);
-    assert!(rt; !tables.entry_differs(0, None));
-    assert!(rt; !tables.entry_differs(1, Some(5)));
-    assert!(rt; tables.entry_differs(1, None));
-    assert!(rt; !tables.entry_differs(3, None));
-    assert!(rt; tables.entry_differs(3, Some(0)));
+    Ok(
+        tables.known_size() == 4
+            && !tables.entry_differs(0, None)
+            && !tables.entry_differs(1, Some(5))
+            && tables.entry_differs(1, None)
+            && !tables.entry_differs(3, None)
+            && tables.entry_differs(3, Some(0)),
+    )
+}
+
+#[test]
+fn new_entries_are_known_as_empty(rt: HostRuntime) -> Result<(), Fail> {
+    assert!(rt; knows_new_entries(rt.alloc())?);
     Ok(())
+}
+
+/// Whether a table has these two entries, and no others.
+fn has_entries(tables: &ShadowTables, first: Option<u32>, second: Option<u32>) -> bool {
+    tables.known_size() == 2 && tables.entry(0) == first && tables.entry(1) == second
+}
+
+/// Grows a table of two entries and puts a function into it. Returns whether that shows in it.
+fn changes(tables: &mut ShadowTables) -> Result<bool, Fail> {
+    if tables.known_size() != 2 {
+        return Ok(false);
+    }
+    tables.set_known_size(4)?;
+    if tables.known_size() != 4 {
+        return Ok(false);
+    }
+    tables.take_entry(1, Some(6));
+    Ok(tables.known_size() == 4 && tables.entry(1) == Some(6))
+}
+
+/// Whether changes do not show in a copy.
+fn is_copied(alloc: Global) -> Result<bool, Fail> {
+    let mut tables = tables_of(alloc)?;
+    if tables.known_size() != 2 {
+        return Ok(false);
+    }
+    tables.take_entry(1, Some(5));
+    let copy = tables.copy()?;
+    let are_seen = changes(&mut tables)?;
+    Ok(are_seen && has_entries(&copy, None, Some(5)))
 }
 
 #[test]
 fn changes_do_not_show_in_a_copy(rt: HostRuntime) -> Result<(), Fail> {
-    let mut tables = tables_of(rt.alloc())?;
-    assert!(rt; tables.known_size() == 2);
-    tables.take_entry(1, Some(5));
-    let copy = tables.copy()?;
-    tables.set_known_size(4)?;
-    assert!(rt; tables.known_size() == 4);
-    tables.take_entry(1, Some(6));
-    assert!(rt; copy.known_size() == 2);
-    assert!(rt; copy.entry(0) == None);
-    assert!(rt; copy.entry(1) == Some(5));
-    assert!(rt; tables.known_size() == 4);
-    assert!(rt; tables.entry(1) == Some(6));
+    assert!(rt; is_copied(rt.alloc())?);
     Ok(())
 }
