@@ -1,7 +1,7 @@
 """`build` with tapes that were written by hand: what the runs of their replay modules show, and tapes that are refused.
 The tapes are in tape_rows.py."""
-from calls import prints, replay_of
-from modules import TAPE, trace, u32
+from calls import replay_of
+from modules import TAPE, last_within, trace, u32
 from run_tables import FILES, MAX, put_run, rows
 from tape_rows import HANDMADE, HANDMADE_LINES, LENGTH, OVERWRITE, REFUSED, TAPES, TWO_ANSWERS, WHOLE_PARTS
 from trace_rows import TAPE_OF_TWO_ANSWERS
@@ -32,7 +32,7 @@ def check_tapes(group, wanted):
     for module, name, segments, script, lines in rows(TAPES):
         words = build_of(group, module, script, tape_of(module, bytes.fromhex(segments)))
         replay = group.done(*words, what=f"`build`, {name}")
-        prints(group, replay_of(group, replay, MAX), lines, f"`replay` shows what the tape does, {name}")
+        group.prints(replay_of(group, replay, MAX), lines, f"`replay` shows what the tape does, {name}")
         count += 1
     group.expect(count == wanted, f"{count} rows of tapes, where there are {wanted}")
 
@@ -57,7 +57,7 @@ def check_fronts(group):
     tape = tape_of(TWO_ANSWERS, TAPE_OF_TWO_ANSWERS)
     group.expect(len(tape) == LENGTH, f"the tape has {LENGTH} bytes")
     for length in range(len(tape)):
-        place = max((it for it in WHOLE_PARTS if it <= length), default=0)
+        place = last_within(WHOLE_PARTS, length)
         words = build_of(group, TWO_ANSWERS, b"{}", tape[:length])
         group.refused(words, 15, f"trace: bad at {place}", f"`build`, the first {length} bytes of {LENGTH}")
 
@@ -75,12 +75,12 @@ def check_weights(group):
     replay = group.done(*words, what="`build`, a tape of the greatest weight")
     group.expect(len(replay) > 1999998, f"the replay module has the tape's zeros: it has {len(replay)} bytes")
     words = replay_of(group, replay, MAX)
-    prints(group, words, b"ended\n", "`replay` writes the zeros of a tape of the greatest weight, and ends")
+    group.prints(words, b"ended\n", "`replay` writes the zeros of a tape of the greatest weight, and ends")
 
 
 def check_handmade(group):
     """The run of a replay module that was written by hand shows its lines."""
-    prints(group, replay_of(group, HANDMADE, MAX), HANDMADE_LINES, "`replay` of a module that was written by hand")
+    group.prints(replay_of(group, HANDMADE, MAX), HANDMADE_LINES, "`replay` of a module that was written by hand")
 
 
 def checks(group):

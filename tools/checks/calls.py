@@ -5,8 +5,8 @@ from call_rows import (
     ANSWERS, HISTORIES, LINES, LONG_INDEX, MADE, MODULES, NO_TURNS, RECURSION, REPLAY_TWO_ANSWERS, REPLAYS, SCRIPTS,
     TWO_ANSWERS, USED_UP,
 )
-from group import Answer
-from modules import LOG, example
+from modules import LOG, example, last_within
+from run_tables import FILES, MAX, put_run
 from trace_rows import DAMAGED, DIGEST, LOG_OF_TWO_ANSWERS, SHOWN, WHOLE_PARTS
 
 # Numbers of calls, and the four lines of `load`. For N calls, q is N / 16 rounded down, and z is the number of calls
@@ -69,9 +69,8 @@ CALL_NOTHING = [(TWO_ANSWERS, b'{"main":[]}'), (example("empty.wasm"), b"{}")]
 
 def words_of(group, command, module, script, turns):
     """The words of a call with a module and a script, which are written as `m.wasm` and `s.json`."""
-    group.put("m.wasm", module)
-    group.put("s.json", script)
-    return [command, "m.wasm", "s.json", turns]
+    put_run(group, module, script)
+    return [command, *FILES, turns]
 
 
 def replay_of(group, module, turns):
@@ -84,12 +83,6 @@ def show_of(group, data):
     """The words of a call of `show` with a file, which is written as `t`."""
     group.put("t", data)
     return ["show", "t"]
-
-
-def prints(group, words, data, what):
-    """Checks that a call ends with status 0, prints exactly these bytes, and has no line of error."""
-    answer = group.call(*words)
-    group.expect(answer == Answer(0, data, b""), what, answer)
 
 
 def made(group, module, script, turns, what):
@@ -119,7 +112,7 @@ def check_shown(group):
     for name, magic, version, rest, lines in SHOWN:
         kind = "log" if magic == LOG else "tape"
         wanted = f"{kind} {DIGEST.hex()}\n".encode() + lines
-        prints(group, show_of(group, file_of(magic, version, rest)), wanted, f"`show` prints the lines of {name}")
+        group.prints(show_of(group, file_of(magic, version, rest)), wanted, f"`show` prints the lines of {name}")
     for name, magic, version, rest, line in DAMAGED:
         group.refused(show_of(group, file_of(magic, version, rest)), 15, line, f"`show`, {name}")
 
@@ -130,7 +123,7 @@ def check_fronts(group):
         data = file_of(magic, 2, rest)
         group.expect(len(data) == total, f"the file has {total} bytes")
         for length in range(len(data)):
-            place = max((it for it in places if it <= length), default=0)
+            place = last_within(places, length)
             what = f"`show`, the first {length} bytes of {total}"
             group.refused(show_of(group, data[:length]), 15, f"trace: bad at {place}", what)
 
@@ -145,19 +138,19 @@ def check_words_of_show(group):
 def check_loads(group):
     """The four lines of loads."""
     for number, lines in LOADS:
-        prints(group, ["load", number], lines, f"`load {number}` prints its four lines")
+        group.prints(["load", number], lines, f"`load {number}` prints its four lines")
 
 
 def check_replays(group):
     """The lines of a replay module, modules that are refused, and lines of a run that is made."""
-    for turns in ("19", "20000000"):
+    for turns in ("19", MAX):
         words = replay_of(group, REPLAY_TWO_ANSWERS, turns)
-        prints(group, words, LINES, f"`replay` prints the lines in {turns} turns")
+        group.prints(words, LINES, f"`replay` prints the lines in {turns} turns")
     for name, module, turns, status, line in REPLAYS:
         group.refused(replay_of(group, module, turns), status, line, f"`replay`, {name}")
-    prints(group, words_of(group, "history", TWO_ANSWERS, ANSWERS, "4"), LINES, "`history` prints the adder's lines")
+    group.prints(words_of(group, "history", TWO_ANSWERS, ANSWERS, "4"), LINES, "`history` prints the adder's lines")
     replay = made(group, TWO_ANSWERS, ANSWERS, "4", "`make` of the adder")
-    prints(group, replay_of(group, replay, "20000000"), LINES, "`replay` prints the adder's lines")
+    group.prints(replay_of(group, replay, MAX), LINES, "`replay` prints the adder's lines")
 
 
 def check_turns(group):
@@ -187,7 +180,7 @@ def check_runs(group):
         replay = made(group, module, script, "100", f"`make`, {name}")
         words = words_of(group, "history", module, script, "100")
         history = group.done(*words, what=f"`history`, {name}")
-        prints(group, replay_of(group, replay, "20000000"), history, f"`replay` prints the history, {name}")
+        group.prints(replay_of(group, replay, MAX), history, f"`replay` prints the history, {name}")
 
 
 def check_words(group):

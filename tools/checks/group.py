@@ -85,6 +85,11 @@ class Group:
         self.expect(answer.status == 0 and not answer.err, what or f"{called(words)} ends with status 0", answer)
         return answer.out
 
+    def prints(self, words, data, what):
+        """Checks that a call ends with status 0, prints exactly these bytes, and has no line of error."""
+        answer = self.call(*words)
+        self.expect(answer == Answer(0, data, b""), what, answer)
+
     def refused(self, words, status, line, what=None, **how):
         """Checks that a call ends with this status and exactly this line, and prints nothing."""
         answer = self.call(*words, **how)

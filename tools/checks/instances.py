@@ -4,12 +4,11 @@ import tempfile
 
 import foreign_rows
 import pair_rows
-from group import Answer
+from run_tables import MAX
 
 # The files of a call have these names, in the order of its words.
 PAIR_FILES = ("l.wasm", "r.wasm", "s.json")
 FOREIGN_FILES = ("m.wasm", "d.json", "s.json")
-REPLAY_TURNS = "20000000"
 
 
 def put_files(group, names, contents):
@@ -18,20 +17,14 @@ def put_files(group, names, contents):
         group.put(name, data)
 
 
-def prints(group, words, lines, what):
-    """Checks that a call ends with status 0 and without a line of error, and prints exactly these lines."""
-    answer = group.call(*words)
-    group.expect(answer == Answer(0, lines, b""), f"{what}: `{words[0]}` prints the lines", answer)
-
-
 def check_runs(group, command, names, rows):
     """Each run's lines are those of its history and those of its replay module."""
     for what, *contents, turns, lines in rows:
         put_files(group, names, contents)
         words = [*names, str(turns)]
-        prints(group, [f"{command}-history", *words], lines, what)
+        group.prints([f"{command}-history", *words], lines, f"{what}: `{command}-history` prints the lines")
         group.put("b.wasm", group.done(command, *words, what=f"{what}: `{command}` ends with status 0"))
-        prints(group, ["replay", "b.wasm", REPLAY_TURNS], lines, what)
+        group.prints(["replay", "b.wasm", MAX], lines, f"{what}: `replay` prints the lines")
 
 
 def check_refused(group, command, names, rows):

@@ -16,6 +16,11 @@ def u32(number):
     return bytes([low]) if rest == 0 else bytes([low | 0x80]) + u32(rest)
 
 
+def last_within(places, length):
+    """The last of the places in a file that is within its first bytes; 0 if there is none."""
+    return max((place for place in places if place <= length), default=0)
+
+
 def s32(number):
     """The shortest signed LEB128 of a number."""
     low, rest = number & 0x7F, number >> 7

@@ -1,4 +1,5 @@
 """Replay modules as bytes: they are valid, and their own runs have the steps of the original's function."""
+from call_rows import ANSWERS
 from modules import example
 from run_tables import FILES, MAX, put_run
 
@@ -44,8 +45,6 @@ LOOP = bytes.fromhex(
 
 TWO_ANSWERS = example("two_answers.wasm")
 COLLATZ = example("collatz.wasm")
-# The import answers 5 and 7.
-ANSWERS = b'{"imports":{"h":{"f":{"calls":[{"return":{"i32":5}},{"return":{"i32":7}}]}}},"main":[{"call":"g"}]}'
 # The numbers whose Collatz sequences are followed, up to a 0.
 COLLATZ_NUMBERS = (
     b'{"imports":{"host":{"next":{"calls":[{"return":{"i32":7}},{"return":{"i32":6}},{"return":{"i32":1}},'

@@ -1,8 +1,9 @@
 """Runs and their lines, and modules in the form of replay modules that were written by hand, with the lines that they
-show of the function that stands for the original's. All lines were worked out by hand; there is `;` between them."""
+show of the function in place of the original's. All lines were worked out by hand; there is `;` between them."""
+from call_rows import ANSWERS
 from edge_rows import IN_TURN
 from modules import example
-from replay_bytes import ANSWERS, DIVISION, TWO_ANSWERS
+from replay_bytes import DIVISION, TWO_ANSWERS
 
 # A function that calls another one with an argument, which calls the import, and then calls the import itself.
 # (module (import "h" "f" (func (result i32))) (func (export "g") (result i32) i32.const 3 call 2 call 0 i32.add)

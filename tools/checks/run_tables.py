@@ -2,7 +2,6 @@
 run_rows.py and edge_rows.py."""
 import edge_rows
 import run_rows
-from group import Answer
 from loads import LOAD_MODULE, load_script, sizes_of_tape
 
 # The greatest number of turns of `record` and `replay`.
@@ -41,8 +40,7 @@ def check_histories(group, tables, wanted):
     count = 0
     for module, name, turns, script, text in rows(tables):
         put_run(group, module, script)
-        answer = group.call("history", *FILES, turns)
-        group.expect(answer == Answer(0, text, b""), f"{name}: the history has its lines", answer)
+        group.prints(["history", *FILES, turns], text, f"{name}: the history has its lines")
         count += 1
     group.expect(count == wanted, f"{count} rows of histories, where there are {wanted}")
 

@@ -168,7 +168,7 @@ LENGTH = 66
 WHOLE_PARTS = [37, 42, 52, 62, 65]
 
 # A replay module that was written section by section (Core 1.0, 5.5; the declared segment: Core 2.0, 5.5.12). Function
-# 0 stands for an import; it calls function 2, which gives seven more each time. Function 1 doubles what it gives.
+# 0 is in place of an import; it calls function 2, which gives seven more each time. Function 1 doubles what it gives.
 # (module (type (func (result i32))) (type (func)) (table 1 funcref) (memory 1 2)
 #   (global i32 (i32.const 8)) (global (mut i32) (i32.const 8)) (global (mut i32) (i32.const 14))
 #   (export "_start" (func 3)) (elem declare func 1) (func (type 0) call 2)
