@@ -23,8 +23,8 @@ pub record StartsWith (m : Module) (script : Script) (store : Store) : Type 0 wh
   pub typed : IsStore m store
   pub opened : run_start m script ≡ Ok (start_in_store m script store)
 
--- the module and the script that the bytes of two files encode can run, the module's data are bytes, and its types,
--- imports, functions, parameters, runs of locals and instructions are at most as many as the file has bytes
+-- the module and the script that the bytes of two files encode can run, the module's data are bytes, and its list
+-- lengths are at most the number of bytes in its file
 pub record AreTaken (module_bytes script_bytes : List ℕ) (m : Module) (script : Script) : Type 0 where
   pub inputs : AreInputs module_bytes script_bytes m script
   pub can_run : CanRun m script

@@ -16,7 +16,7 @@ pub fn files_are_of_words()
     encodable_have_words();
 }
 
-/// The instrumented module of a valid module that has an encoding has one (Core 1.0, 5).
+/// The instrumented module of a valid and short module that has an encoding has one (Core 1.0, 5).
 pub fn instrumented_are_encodable()
     ensures { InstrumentedAreEncodable }
 {

@@ -54,8 +54,8 @@ pub fn widened_outcomes_follow()
     widened_runs_follow();
 }
 
-/// For each declared function a widened module has a type, an import and a function more; the runs of locals and the
-/// instructions of each defined function are as many as in the original.
+/// The list lengths of a widened module are at most the sum of a bound on those of the original, of 2 for each declared
+/// function, and of `MAX_PARAMETERS`.
 pub fn widened_have_lists_within()
     ensures { WidenedHaveListsWithin }
 {}

@@ -53,7 +53,8 @@ WidenedAreSupported =
 
 -- ---- sizes
 
--- for each declared function a widened module has a type and an import more
+-- the list lengths of a widened module are at most the sum of a bound on those of the original, of 2 for each declared
+-- function, and of `MAX_PARAMETERS`
 abbrev pub WidenedHaveListsWithin : Type 0
 WidenedHaveListsWithin =
     (m : Module) (decls : List Decl) (most : ℕ) → HasListsWithin most m → HaveFewParameters decls

@@ -215,3 +215,13 @@ types_or_none m from name imports = by (list_any (is_named from name) imports) (
         ≡ filter_map (import_type m) (filter (is_named from name) imports)
     by true h = refl
     by false h = rw (h refl) refl
+
+-- there are types under two names if something is imported under them
+pub types_are_there : (m : Module) (from name : List ℕ) (imports : List Import)
+    → is_some (types_if_any m from name imports) ≡ list_any (is_named from name) imports
+types_are_there m from name imports = by (list_any (is_named from name) imports)
+  where
+    by : (b : Bool)
+        → is_some (cond b (Some (filter_map (import_type m) (filter (is_named from name) imports))) None) ≡ b
+    by true = refl
+    by false = refl

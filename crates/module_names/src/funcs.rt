@@ -1,6 +1,6 @@
 // The functions that a module imports, with indexes of their names.
 
-ghost use Rattle.std.specs.Prelude.{◌≡◌, IfOk, map, [], option_map, unwrap_or};
+ghost use Rattle.std.specs.Prelude.{◌≡◌, is_some, IfOk, map, [], option_map, unwrap_or};
 ghost use Rattle.wasm_syntax.specs.Index.{func_import, imported_funcs as count_of_funcs};
 ghost use Rattle.module_names.specs.Names.{imports_with, imports_from, imports_named, func_types_named};
 
@@ -82,10 +82,11 @@ impl<'a> ImportedFuncs<'a> {
         self.types.contains_key(&(from, name))
     }
 
-    /// The types of the functions imported under two names, if there are any.
+    /// The types of the functions imported under two names, if a function is.
     pub(crate) fn types(&self, from: &'a str, name: &'a str) -> Option<&Vec<&'a FuncType>>
-        ensures { unwrap_or (option_map (λ types. map (λ ty. ty.now) types.now.items) result) []
+        ensures types { unwrap_or (option_map (λ types. map (λ ty. ty.now) types.now.items) result) []
             ≡ func_types_named self.now from.now name.now }
+        ensures there { is_some result ≡ imports_named func_import self.now from.now name.now }
     {
         self.types.get(&(from, name))
     }

@@ -132,10 +132,11 @@ impl<'a> ModuleNames<'a> {
         self.funcs.has_names(from, name)
     }
 
-    /// The types of the functions imported under two names, in the module's order, if there are any.
+    /// The types of the functions imported under two names, in the module's order, if a function is.
     pub fn func_types(&self, from: &'a str, name: &'a str) -> Option<&Vec<&'a FuncType>>
-        ensures { unwrap_or (option_map (λ types. map (λ ty. ty.now) types.now.items) result) []
+        ensures types { unwrap_or (option_map (λ types. map (λ ty. ty.now) types.now.items) result) []
             ≡ func_types_named self.now from.now name.now }
+        ensures there { is_some result ≡ imports_named func_import self.now from.now name.now }
     {
         self.funcs.types(from, name)
     }

@@ -16,7 +16,7 @@ CountsAreWithin =
     → count_in pair space
     ≤ length pair.left.imports + length pair.right.imports + defined_in space pair.left + defined_in space pair.right
 
--- a linked module has no more types, imports, functions, parameters, runs of locals and instructions than both modules
+-- the list lengths of a linked module are at most the sum of bounds on those of the left and of the right module
 abbrev pub LinkedHaveListsWithin : Type 0
 LinkedHaveListsWithin =
     (pair : ModulePair) (left right : ℕ) → HasListsWithin left pair.left → HasListsWithin right pair.right

@@ -47,7 +47,7 @@ pub fn counts_are_within()
     ensures { CountsAreWithin }
 {}
 
-/// No list of a linked module has more items than those of both modules.
+/// The list lengths of a linked module are at most the sum of bounds on those of the left and of the right module.
 pub fn linked_have_lists_within()
     ensures { LinkedHaveListsWithin }
 {}

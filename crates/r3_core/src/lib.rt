@@ -90,9 +90,9 @@ pub fn r3<F: Files, O: Sink, E: Sink>(
         → IsDoable command (map (file_bytes known) names) numbers
         → Contains (0 ∷ 3 ∷ 13 ∷ 14 ∷ []) result) }
 
-    // What is printed. No read and no write has failed then.
-    ensures read_whole { result ≡ 0 → (name : List ℕ) → F.faults files.new name ≡ F.faults files.old name }
-    ensures written_whole { result ≡ 0 → O.faults out.new ≡ O.faults out.old }
+    // With status 0 no count of faults has risen, and this is printed.
+    ensures no_failed_read { result ≡ 0 → (name : List ℕ) → F.faults files.new name ≡ F.faults files.old name }
+    ensures no_failed_write { result ≡ 0 → O.faults out.new ≡ O.faults out.old }
     ensures printed { result ≡ 0 → (bytes : List ℕ)
         × IsPrintedFor (texts words.now) (F.contents files.old) bytes
         × Grew (O.written out.old) (O.written out.new) bytes }
@@ -145,8 +145,8 @@ fn run<F: Files, O: Sink>(
         → ForSome (F.contents files.old) (λ known. first_longer known (files_of (texts words.now)) ≡ None
         → IsDoable command (map (file_bytes known) names) numbers
         → IfErr result (λ other. Contains (3 ∷ 13 ∷ 14 ∷ []) (status_of other))) }
-    ensures read_whole { OnOk result ((name : List ℕ) → F.faults files.new name ≡ F.faults files.old name) }
-    ensures written_whole { OnOk result (O.faults out.new ≡ O.faults out.old) }
+    ensures no_failed_read { OnOk result ((name : List ℕ) → F.faults files.new name ≡ F.faults files.old name) }
+    ensures no_failed_write { OnOk result (O.faults out.new ≡ O.faults out.old) }
     ensures printed { OnOk result ((bytes : List ℕ)
         × IsPrintedFor (texts words.now) (F.contents files.old) bytes
         × Grew (O.written out.old) (O.written out.new) bytes) }
@@ -182,7 +182,7 @@ fn output_of_call<F: Files>(alloc: Global, call: &Call<'_>, files: &mut F) -> Re
         (λ known. first_longer known (zip (texts call.now.names.now) (form call.now.command).limits) ≡ None
         → IsDoable call.now.command (map (file_bytes known) (texts call.now.names.now)) call.now.numbers
         → IfErr result (λ other. Contains (3 ∷ 13 ∷ 14 ∷ []) (status_of other))) }
-    ensures read_whole { OnOk result ((name : List ℕ) → F.faults files.new name ≡ F.faults files.old name) }
+    ensures no_failed_read { OnOk result ((name : List ℕ) → F.faults files.new name ≡ F.faults files.old name) }
     ensures printed { IfOk result (λ bytes. (loaded : List (List ℕ))
         × AreBytesOf (F.contents files.old) (texts call.now.names.now) loaded
         × Prints call.now.command loaded call.now.numbers bytes.items) }

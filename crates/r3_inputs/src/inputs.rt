@@ -42,7 +42,7 @@ pub fn module_of(alloc: Global, bytes: &[u8]) -> Result<Checked, Fault>
     // A run needs this: no instruction is refused, and the module's lists are short.
     ensures supported { IfOk result (λ checked. IsSupported checked) }
     ensures short { IfOk result (λ checked. IsShort checked) }
-    // Types, imports and functions, parameters, runs of locals and instructions are no more than the bytes.
+    // The list lengths of the module are at most the number of bytes.
     ensures within { IfOk result (λ checked. HasListsWithin (length bytes.now) checked) }
     ensures cause { IfErr result (λ fault. (fault ≡ Memory) ⊎ IsRefusedModule bytes.now fault) }
     ensures refused { (fault : Fault) → IsRefusedModule bytes.now fault

@@ -38,7 +38,7 @@ with_listed counts name more = record counts {
 abbrev pub with_unlisted : NameCounts → ℕ → NameCounts
 with_unlisted counts more = record counts { unlisted = saturating_add counts.unlisted more }
 
--- `more` was counted for a name; for every name only if this one was not listed
+-- `more` was counted for a name; it was counted for every name only if this one was not listed
 abbrev pub IsCountedFor : (name : List ℕ) → (more : ℕ) → (before now : NameCounts) → Type 0
 IsCountedFor name more before now =
     (now ≡ with_listed before name more)

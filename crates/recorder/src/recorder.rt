@@ -93,8 +93,8 @@ impl<S: EventSink + Drop> Recorder<S> {
         })
     }
 
-    /// The sink, which has taken the events of the calls so far; after a call that ended with `Memory`, perhaps some
-    /// of that call's too. Takes no memory.
+    /// The sink, which has taken the events of the calls so far. After a call that ended with `Memory`, it may
+    /// have taken some of that call's events too. Takes no memory.
     pub fn close(self) -> S
         ensures { result ≡ self.recording.sink }
     {

@@ -41,7 +41,7 @@ AreWritten before address bytes after =
 abbrev pub AreSame : (before after : List ℕ) → Type 0
 AreSame before after = (at : ℕ) → slice_index after at ≡ slice_index before at
 
--- nothing was frozen yet: no pages, and zeros everywhere
+-- what a memory that was never frozen shows as frozen: no pages, and zeros everywhere
 pub record HasFrozenNothing (shadow : Shadow) : Type 0 where
   pub pages : shadow.frozen.pages ≡ 0
   pub byte : (at : ℕ) → slice_index shadow.frozen.bytes at ≡ 0

@@ -18,8 +18,8 @@ StateModulesCanBeReplayed =
     → IsFromBytes bytes m → IsTakenSupply m supply → IsTakenTape m tape → IsStateOf m supply state
     → CanBeReplayed (state_module_of m state) (state_supply_of supply state) tape
 
--- the module that begins in a state has no more types, imports, functions, parameters, runs of locals and instructions
--- than the original, and is short if the original is
+-- a bound on the list lengths of a module also holds for the module that begins in a state, and that one is short if
+-- the original is short and can be in the state
 pub record StateModulesAreShort : Type 0 where
   pub lists : (most : ℕ) (m : Module) (state : KnownState) → HasListsWithin most m
       → HasListsWithin most (state_module_of m state)

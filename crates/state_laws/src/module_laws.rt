@@ -37,8 +37,8 @@ pub fn state_modules_can_be_replayed()
     shortest_encoding();
 }
 
-/// The module that begins in a state has as many types, imports, functions, parameters, runs of locals and instructions
-/// as the original, and is short enough to be made flat, if the original is.
+/// A bound on the list lengths of a module also holds for the module that begins in a state, and that one is short
+/// enough to be made flat, if the original is and can be in the state.
 pub fn state_modules_are_short()
     ensures { StateModulesAreShort }
 {}

@@ -76,7 +76,7 @@ pub fn log_events<S: LogSink>(
         × IfErr result (λ fault. fault ≡ faults.Memory) }
     // Every error has a cause.
     ensures fault { IfErr result (λ fault. IsLogFault bytes.now fault) }
-    // At a fault the sink took exactly the whole events; if the version is not known, it took nothing.
+    // If the place is bad, the sink took exactly the whole events; if the version is not known, it took nothing.
     ensures whole { (at : ℕ) → result ≡ Err (faults.Bad at) → TakesWhole bytes.now S.takes sink.old sink.new }
     ensures unread { (version : ℕ) → result ≡ Err (faults.Version version) → sink.new ≡ sink.old }
 {

@@ -1,6 +1,6 @@
 // Whether a run can have the events of a log in their order.
 
-ghost use Rattle.std.specs.Prelude.{◌≡◌, [], ◌∷◌, drop, IfOk, OnOk, OnErr, MatchOption};
+ghost use Rattle.std.specs.Prelude.{◌≡◌, [], ◌∷◌, drop, false, IfOk, OnOk, OnErr, MatchOption};
 ghost use Rattle.trace_model.specs.Balance.{IsBalance, Takes, balance_start, balanced_step, calls_import, ends_so, enter_frames, first_unbalanced, is_empty_stack, is_function, leave_frames, post_frames};
 ghost use Rattle.trace_model.specs.declared.events.Event.TheVariants.{Pre};
 
@@ -114,6 +114,7 @@ impl Frames {
     /// Enters a function. Returns whether that is allowed.
     fn enter(&mut self, imports: u32, func: u32) -> Result<bool, NoMemory>
         ensures ok { IfOk result (λ may. Takes may self.new (enter_frames imports func self.old)) }
+        ensures kept { IfOk result (λ may. may ≡ false → self.new ≡ self.old) }
         ensures refused { OnErr result (self.new ≡ self.old) }
     {
         self.items.reserve(1)?;
@@ -134,7 +135,8 @@ impl Frames {
 
     /// Ends a function. Returns whether that is allowed.
     fn leave(&mut self, func: u32) -> bool
-        ensures { Takes result self.new (leave_frames func self.old) }
+        ensures takes { Takes result self.new (leave_frames func self.old) }
+        ensures kept { result ≡ false → self.new ≡ self.old }
     {
         match self.top() {
             Some(Frame::Function(top)) if top == func => {
@@ -147,7 +149,8 @@ impl Frames {
 
     /// Ends a call. Returns whether that is allowed.
     fn post(&mut self, imports: u32) -> bool
-        ensures { Takes result self.new (post_frames imports self.old) }
+        ensures takes { Takes result self.new (post_frames imports self.old) }
+        ensures kept { result ≡ false → self.new ≡ self.old }
     {
         match self.top() {
             Some(Frame::Call(Some(callee), entered)) if callee < imports || entered => {
@@ -171,12 +174,13 @@ impl Balance {
         }
     }
 
-    /// Takes an event. Returns whether it is allowed.
+    /// Takes an event. Returns whether it is allowed; one that is not changes nothing.
     ///
     /// # Errors
     /// `NoMemory` if an allocation failed; the event is not taken then.
     pub fn step(&mut self, imports: u32, event: &Event) -> Result<bool, NoMemory>
         ensures ok { IfOk result (λ may. Takes may self.new (balanced_step imports self.old event.now)) }
+        ensures kept { IfOk result (λ may. may ≡ false → self.new ≡ self.old) }
         ensures refused { OnErr result (self.new ≡ self.old) }
     {
         let may = match event {
@@ -187,16 +191,17 @@ impl Balance {
             Event::Seen => self.grew && self.frames.is_function(),
             _ => self.frames.is_function(),
         };
-        if let Event::Grow { .. } = event {
-            self.grew = true;
+        if may {
+            self.grew = self.grew || matches!(event, Event::Grow { .. });
+            self.called = false;
         }
-        self.called = false;
         Ok(may)
     }
 
     /// Begins a call. Returns whether that is allowed.
     fn call(&mut self, callee: Option<u32>) -> Result<bool, NoMemory>
         ensures ok { IfOk result (λ may. Takes may self.new (balanced_step 0 self.old (Pre callee))) }
+        ensures kept { IfOk result (λ may. may ≡ false → self.new ≡ self.old) }
         ensures refused { OnErr result (self.new ≡ self.old) }
     {
         if !self.frames.is_function() {

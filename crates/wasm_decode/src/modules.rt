@@ -54,7 +54,7 @@ pub fn decode(alloc: Global, bytes: &[u8], form: Form) -> Result<Module, DecodeF
     ensures core { IfOk result (λ m. form ≡ Core → IsCoreModule m) }
     // Data segments hold bytes.
     ensures bytes { IfOk result (λ m. All (λ segment. All (λ byte. byte < 256) segment.bytes) m.datas) }
-    // No list of the module is longer than the bytes.
+    // The list lengths of the module are at most the number of bytes.
     ensures within { IfOk result (λ m. HasListsWithin (length bytes.now) m) }
 {
     // What the plain program of the grammar and of the place of a fault gives, and what holds of

@@ -16,7 +16,7 @@ pub record HasListsWithin (most : ℕ) (m : Module) : Type 0 where
   pub locals : All (λ (func : Func). length func.locals ≤ most) m.funcs
   pub bodies : All (λ (func : Func). length func.body ≤ most) m.funcs
 
--- no list of a module has more items than there are bytes that encode the module
+-- the list lengths of a module are at most the number of bytes that encode the module
 abbrev pub ListsAreWithinEncoding : Type 0
 ListsAreWithinEncoding =
     (form : Form) (bytes : List ℕ) (m : Module) → Encodes form bytes m → HasListsWithin (length bytes) m

@@ -4,7 +4,7 @@ ghost use Rattle.wasm_syntax.specs.ListsWithin.{ListsAreWithinEncoding};
 
 use crate::shortest_encoding;
 
-/// No list of a module has more items than there are bytes that encode the module.
+/// The list lengths of a module (those of `HasListsWithin`) are at most the number of bytes that encode it.
 pub fn lists_of_encoding()
     ensures within { ListsAreWithinEncoding }
 {

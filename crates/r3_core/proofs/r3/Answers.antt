@@ -54,11 +54,11 @@ returns-in-Err-clause-unread g c = λ either. elim either [
 pub returns-in-Err-clause-printed : goal.returns-in-Err-clause-printed
 returns-in-Err-clause-printed g c = λ e. absurd (status-not_done c.in-Err.fault (sym c.status.ensures ∙ e))
 
-pub returns-in-Err-clause-read_whole : goal.returns-in-Err-clause-read_whole
-returns-in-Err-clause-read_whole g c = λ e. absurd (status-not_done c.in-Err.fault (sym c.status.ensures ∙ e))
+pub returns-in-Err-clause-no_failed_read : goal.returns-in-Err-clause-no_failed_read
+returns-in-Err-clause-no_failed_read g c = λ e. absurd (status-not_done c.in-Err.fault (sym c.status.ensures ∙ e))
 
-pub returns-in-Err-clause-written_whole : goal.returns-in-Err-clause-written_whole
-returns-in-Err-clause-written_whole g c = λ e. absurd (status-not_done c.in-Err.fault (sym c.status.ensures ∙ e))
+pub returns-in-Err-clause-no_failed_write : goal.returns-in-Err-clause-no_failed_write
+returns-in-Err-clause-no_failed_write g c = λ e. absurd (status-not_done c.in-Err.fault (sym c.status.ensures ∙ e))
 
 pub returns-in-Err-clause-silent : goal.returns-in-Err-clause-silent
 returns-in-Err-clause-silent g c = λ e. absurd (status-not_done c.in-Err.fault (sym c.status.ensures ∙ e))
