@@ -33,12 +33,6 @@ WRITER = example("overwrite.wasm")
 WRITES = b"""{"imports":{"h":{"f":{"calls":[{"do":[{"write":8,"bytes":"aabbccdd"}]},{}]}}},
 "main":[{"call":"g"},{"call":"g"}]}"""
 
-# The same scripts with other white space.
-SPACED_SCRIPT = b"""{"imports":{"h":{"f":{"calls":[{"return":{"i32":5}},{"return":{"i32":7}},
-    {"return":{"i32":1}},{"return":{"i32":2}}]}}},"main":[{"call":"g"},{"call":"g"}]}"""
-SPACED_WRITES = b"""{"imports":{"h":{"f":{"calls":[{"do":[{"write":8,"bytes":"aabbccdd"}]},{}]}}},
-    "main":[{"call":"g"},{"call":"g"}]}"""
-
 # The lines of the second call of the writer: the two bytes of the host that the first call read are there.
 KNOWN_LINES = b"""host-call 1
 step 1 0 ->
@@ -91,18 +85,18 @@ host-return 1
 ended
 """
 
-# Scripts for the adder, turns, the number of a call, and the status and the line.
+# Scripts for the adder, turns, the number of a call, and the status and the line: what is refused before a missing
+# call, and after it.
 REFUSED = [
-    (SPACED_SCRIPT, "8", "2", 22, "no call: 2 of 2"),
-    (SPACED_SCRIPT, "8", "1000000000", 22, "no call: 1000000000 of 2"),
-    (SPACED_SCRIPT, "7", "2", 12, "turns spent: 7"),
+    (SCRIPT, "8", "2", 22, "no call: 2 of 2"),
+    (SCRIPT, "8", "1000000000", 22, "no call: 1000000000 of 2"),
+    (SCRIPT, "7", "2", 12, "turns spent: 7"),
+    (b'{"main":[{"call":"g"}]}', "8", "7", 11, "script fault: turn 2 no response"),
     (b'{"main":[{"call":"g"}]}', "8", "9", 11, "script fault: turn 2 no response"),
     (b'{"main":[]}', "8", "0", 22, "no call: 0 of 0"),
     (b"{", "8", "0", 9, "script: not json"),
-    (SPACED_SCRIPT, "8", "1000000001", 2, "usage"),
-    (SPACED_SCRIPT, "8", "01", 2, "usage"),
-    (SPACED_SCRIPT, "8", "", 2, "usage"),
-    (SPACED_SCRIPT, "0", "0", 2, "usage"),
+    (SCRIPT, "0", "0", 2, "usage"),
+    (SCRIPT, "1000000001", "0", 2, "usage"),
 ]
 
 # The data section with one active segment: the bytes 01 00 cc dd at 8.
@@ -167,50 +161,31 @@ def check_run(group):
         engines.run_by_node(group, node, {"adder": "ended"})
 
 
-def check_order(group):
-    """What is refused before a missing call, and after it."""
-    files = group.put("order.wasm", ADDER), group.put("order.json", SCRIPT)
-    group.refused(["from", *files, str(TURNS), "2"], 22, "no call: 2 of 2")
-    group.refused(["from", *files, str(TURNS), "1000000000"], 22, "no call: 1000000000 of 2")
-    group.refused(["from", *files, str(TURNS - 1), "2"], 12, f"turns spent: {TURNS - 1}")
-    group.put("order.json", b'{"main":[{"call":"g"}]}')
-    group.refused(["from", *files, str(TURNS), "7"], 11, "script fault: turn 2 no response")
-    group.put("order.json", b'{"main":[]}')
-    group.refused(["from", *files, str(TURNS), "0"], 22, "no call: 0 of 0")
+def check_words(group):
+    """Numbers that are none, files that are not there, and a word too few or too many."""
+    files = group.put("words.wasm", ADDER), group.put("words.json", SCRIPT)
     for number in NO_NUMBERS:
         group.refused(["from", *files, str(TURNS), number], 2, "usage")
-    group.refused(["from", "none.wasm", "none.json", "1000000000", "1000000000"], 3, "read: none.wasm")
-    group.refused(["from", *files, "1000000001", "0"], 2, "usage")
-    group.refused(["from", *files, "0", "0"], 2, "usage")
     group.refused(["from", *files, str(TURNS)], 2, "usage")
     group.refused(["from", *files, str(TURNS), "0", "0"], 2, "usage")
+    group.refused(["from", "none.wasm", "none.json", "1000000000", "1000000000"], 3, "read: none.wasm")
 
 
 def check_state(group):
     """The bytes that are known before the second call are the replay module's only data segment, at 8."""
     files = group.put("writer.wasm", WRITER), group.put("writer.json", WRITES)
     check_rests(group, "writer", *files, 15, group.done("history", *files, "15"))
-    replay = contents(group.put("writer.second.wasm", group.done("from", *files, "15", "1")))
-    group.expect(replay.count(DATA) == 1, "the state module has one data segment")
+    replay = group.path("writer.1.wasm")
+    group.expect(contents(replay).count(DATA) == 1, "the state module has one data segment")
+    group.expect(group.done("replay", replay, "1000") == KNOWN_LINES, "the second call reads the known bytes")
 
 
-def made_of(group, name, module, script, turns, number):
-    """What `from` prints for a module, a script, turns and the number of a call."""
-    files = group.put(name + ".wasm", module), group.put(name + ".json", script)
-    return group.done("from", *files, turns, number)
-
-
-def check_lines(group):
-    """The lines of second calls alone; a start function is the first call."""
-    runs = [
-        ("spaced", ADDER, SPACED_SCRIPT, "8", LINES),
-        ("spaced_writer", WRITER, SPACED_WRITES, "15", KNOWN_LINES),
-        ("started", STARTED, ONE_MORE, "100", LINES_AFTER_START),
-    ]
-    for name, module, script, turns, lines in runs:
-        replay = group.put(name + ".replay.wasm", made_of(group, name, module, script, turns, "1"))
-        group.expect(group.done("replay", replay, "1000") == lines, f"{name}: the second call is replayed alone")
-    replay = group.put("started.whole.wasm", made_of(group, "started", STARTED, ONE_MORE, "100", "0"))
+def check_start(group):
+    """A start function is the first call."""
+    files = group.put("started.wasm", STARTED), group.put("started.json", ONE_MORE)
+    replay = group.put("started.second.wasm", group.done("from", *files, "100", "1"))
+    group.expect(group.done("replay", replay, "1000") == LINES_AFTER_START, "the second call is replayed alone")
+    replay = group.put("started.whole.wasm", group.done("from", *files, "100", "0"))
     begin = b"host-call 2\nstep 2 0 ->\nenter 1\n"
     group.expect(group.done("replay", replay, "1000").startswith(begin), "the call of the start function is replayed")
 
@@ -224,8 +199,8 @@ def check_causes(group):
 
 def checks(group):
     check_run(group)
-    check_lines(group)
+    check_start(group)
     check_causes(group)
-    check_order(group)
+    check_words(group)
     check_examples(group)
     check_state(group)

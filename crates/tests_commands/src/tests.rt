@@ -6,3 +6,4 @@ mod failing_calls;
 mod faults;
 mod files;
 mod long_contents;
+mod no_turns;

@@ -32,7 +32,7 @@ const UNREAD: &[(&[&str], &str)] = &[
 ];
 
 #[test]
-fn the_first_read_fails(rt: HostRuntime) -> Result<(), Fail> {
+fn the_first_read_of_show_and_replay_fails(rt: HostRuntime) -> Result<(), Fail> {
     for &(words, line) in UNREAD {
         let mut files = files_of_both(rt.alloc(), &[0])?;
         let answer = outcome_of(rt.alloc(), words, &mut files)?;
@@ -50,7 +50,7 @@ const CUT_SHORT: &[(&[&str], &[u64], &[u8])] = &[
 ];
 
 #[test]
-fn the_second_write_fails(rt: HostRuntime) -> Result<(), Fail> {
+fn the_second_write_of_show_replay_and_load_fails(rt: HostRuntime) -> Result<(), Fail> {
     for &(words, failing, printed) in CUT_SHORT {
         let mut files = files_of_both(rt.alloc(), failing)?;
         let answer = outcome_cut(rt.alloc(), words, &mut files)?;
