@@ -1,3 +1,4 @@
+;; spelling: this shows the module and is not its source, which is spelling.c; in spelling.wasm some numbers are longer than they need be.
 (module
   (type (;0;) (func (param i32 i32) (result i32)))
   (type (;1;) (func (param i32 i32 i32)))

@@ -6,7 +6,8 @@ use std::alloc::Global;
 use std::test::Fail;
 use wasm_syntax::limits::MAX_FILE_BYTES;
 
-/// The instrumented module of `TWO_ANSWERS`, with the SHA-256 digest of its bytes.
+/// The instrumented module of `TWO_ANSWERS`:
+/// `hooked_modules::TWO_ANSWERS`, except that the section has the SHA-256 digest of the original's bytes.
 const INSTRUMENTED: &str =
     "0061736d01000000011e066000017f60027f7e0060017f0060000060037f7f7f0060047f7f7f7e00029f0110016801660000\
      02723303617267000102723305656e7465720002027233056c65617665000202723303707265000202723304706f73740002\
@@ -21,7 +22,12 @@ type Row = (&'static str, &'static str, u8);
 
 const ROWS: &[Row] = &[
     ("no bytes", "", 5),
-    ("a section that is cut short", "0061736d0100000001050160", 5),
+    (
+        "a section that is cut short",
+        // malformed: two of the five bytes of a section
+        "0061736d0100000001050160",
+        5,
+    ),
     (
         "a body that leaves nothing",
         // (module (func (result i32)))

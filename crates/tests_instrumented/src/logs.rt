@@ -41,6 +41,22 @@ const NO_TYPE: &str =
 
 /// A function that stores two bytes and loads four, two of them written by the host, instrumented.
 const OVERWRITE: &str =
+    // (module (type (func)) (type (func (result i32))) (type (func (param i32 i64))) (type (func (param i32)))
+    //   (type (func (param i32 i32 i32))) (type (func (param i32 i32 i32 i64)))
+    //   (import "h" "f" (func (type 0))) (import "r3" "arg" (func (type 2))) (import "r3" "enter" (func (type 3)))
+    //   (import "r3" "leave" (func (type 3))) (import "r3" "pre" (func (type 3))) (import "r3" "post" (func (type 3)))
+    //   (import "r3" "ipre" (func (type 3))) (import "r3" "ipost" (func (type 0))) (import "r3" "load" (func (type 4)))
+    //   (import "r3" "store" (func (type 5))) (import "r3" "size" (func (type 0))) (import "r3" "grow" (func (type 3)))
+    //   (import "r3" "gget" (func (type 2))) (import "r3" "gset" (func (type 2))) (import "r3" "copy" (func (type 4)))
+    //   (import "r3" "fill" (func (type 4)))
+    //   (func (type 1) (local i32 i32 i64 f32 f64)
+    //     i32.const 1 call 2 block (result i32)
+    //     i32.const 0 call 4 call 0 i32.const 0 call 5
+    //     i32.const 8 i32.const 1 local.set 1 local.tee 0
+    //     i32.const 0 i32.const 2 local.get 1 i64.extend_i32_u call 9 local.get 0 local.get 1 i32.store16
+    //     i32.const 8 local.tee 0 i32.const 0 i32.const 4 call 8 local.get 0 i32.load
+    //     end i32.const 1 call 3)
+    //   (memory 1) (export "g" (func 16)) (export "m" (memory 0))), with a section `r3.hooked`
     "0061736d01000000011e066000006000017f60027f7e0060017f0060037f7f7f0060047f7f7f7e00029f011001680166\
      000002723303617267000202723305656e7465720003027233056c65617665000302723303707265000302723304706f\
      73740003027233046970726500030272330569706f73740000027233046c6f616400040272330573746f726500050272\
@@ -147,6 +163,7 @@ const ROWS: &[Row] = &[
     ),
     (
         "no module",
+        // malformed: no version
         "0061736d",
         ANSWERS,
         29,

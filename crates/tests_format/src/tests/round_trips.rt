@@ -64,20 +64,23 @@ fn long_numbers_are_cut(rt: HostRuntime) -> Result<(), Fail> {
 fn instructions_of_the_prefix_are_cut(rt: HostRuntime) -> Result<(), Fail> {
     // each module with its numbers longer, and in their fewest bytes
     let rows = [
-        // (module (memory 1) (func i32.const 8 i32.const 16 i32.const 4 memory.copy
-        // i32.const 8 i32.extend8_s i32.const 1 i32.const 4 memory.fill)), with the number of `memory.copy` in
-        // two bytes and that of `memory.fill` in five
         (
+            // (module (memory 1) (func i32.const 8 i32.const 16 i32.const 4 memory.copy
+            //   i32.const 8 i32.extend8_s i32.const 1 i32.const 4 memory.fill)), with the number of `memory.copy` in
+            // two bytes and that of `memory.fill` in five
             "0061736d01000000010401600000030201000503010001\
              0a1d011b00410841104104fc8a0000004108c041014104fc8b80808000000b",
+            // (module (memory 1) (func i32.const 8 i32.const 16 i32.const 4 memory.copy
+            //   i32.const 8 i32.extend8_s i32.const 1 i32.const 4 memory.fill))
             "0061736d01000000010401600000030201000503010001\
              0a18011600410841104104fc0a00004108c041014104fc0b000b",
         ),
-        // (module (table 1 funcref) (func ref.null func i32.const 1 table.grow 0 drop table.size 0 drop)), with the
-        // number of `table.grow` and the table of `table.size` in two bytes
         (
+            // (module (table 1 funcref) (func ref.null func i32.const 1 table.grow 0 drop table.size 0 drop)), with the
+            // number of `table.grow` and the table of `table.size` in two bytes
             "0061736d010000000104016000000302010004040170000\
              10a12011000d0704101fc8f00001afc1080001a0b",
+            // (module (table 1 funcref) (func ref.null func i32.const 1 table.grow 0 drop table.size 0 drop))
             "0061736d010000000104016000000302010004040170000\
              10a10010e00d0704101fc0f001afc10001a0b",
         ),

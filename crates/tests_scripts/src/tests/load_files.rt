@@ -6,6 +6,12 @@ use std::test::Fail;
 
 /// The module of a load, in hexadecimal.
 const MODULE: &str =
+    // (module (type (func (param i32) (result i32))) (type (func)) (import "h" "f" (func (type 0)))
+    //   (func (type 0) (local i32 i32) loop local.get 2 local.get 1 call 0 i32.add local.get 1 i32.load8_u i32.add
+    //     local.set 2 local.get 1 i32.const 1 i32.add local.tee 1 local.get 0 i32.lt_u br_if 0 end local.get 2)
+    //   (func (type 1) global.get 0 i32.const 1 i32.add global.set 0)
+    //   (memory 1) (global (mut i32) (i32.const 0))
+    //   (export "run" (func 1)) (export "tick" (func 2)) (export "m" (memory 0)))
     "0061736d0100000001090260017f017f600000020701016801660000030302000105030100010606017f0141000b\
      0712030372756e0001047469636b0002016d02000a30022401027f03402002200110006a20012d00006a21022001\
      41016a22012000490d000b20020b0900230041016a24000b";

@@ -115,6 +115,7 @@ const A_LOG: (&str, &str, &str) = ("72336c67", "02", LOG_OF_TWO_ANSWERS);
 
 const A_TAPE: (&str, &str, &str) = ("72337470", "02", TAPE_OF_TWO_ANSWERS);
 
+// malformed: no version
 const A_MODULE: (&str, &str, &str) = ("0061736d", "01", "");
 
 /// Why a file is not shown as one of a kind; None if it is.
