@@ -154,7 +154,7 @@ def check_run(group):
     """The lines of the adder's second call, and its replay module in another engine."""
     files = group.put("adder.wasm", ADDER), group.put("adder.json", SCRIPT)
     replay = group.put("adder.replay.wasm", group.done("from", *files, str(TURNS), "1"))
-    group.expect(group.done("replay", replay, "100") == LINES, "`replay` prints the lines of the second call")
+    group.prints(["replay", replay, "100"], LINES, "`replay` prints the lines of the second call")
     node = shutil.which("node") or shutil.which("nodejs")
     if node:
         group.put("probe", engines.PROBE)
@@ -177,14 +177,14 @@ def check_state(group):
     check_rests(group, "writer", *files, 15, group.done("history", *files, "15"))
     replay = group.path("writer.1.wasm")
     group.expect(contents(replay).count(DATA) == 1, "the state module has one data segment")
-    group.expect(group.done("replay", replay, "1000") == KNOWN_LINES, "the second call reads the known bytes")
+    group.prints(["replay", replay, "1000"], KNOWN_LINES, "the second call reads the known bytes")
 
 
 def check_start(group):
     """A start function is the first call."""
     files = group.put("started.wasm", STARTED), group.put("started.json", ONE_MORE)
     replay = group.put("started.second.wasm", group.done("from", *files, "100", "1"))
-    group.expect(group.done("replay", replay, "1000") == LINES_AFTER_START, "the second call is replayed alone")
+    group.prints(["replay", replay, "1000"], LINES_AFTER_START, "the second call is replayed alone")
     replay = group.put("started.whole.wasm", group.done("from", *files, "100", "0"))
     begin = b"host-call 2\nstep 2 0 ->\nenter 1\n"
     group.expect(group.done("replay", replay, "1000").startswith(begin), "the call of the start function is replayed")
