@@ -10,7 +10,7 @@ case $here in
     */*) top=./${here%/*} ;;
     *) top=. ;;
 esac
-. "$top/tools/find_program.sh" || exit 1
+. "$top/tools/use/find_program.sh" || exit 1
 
 print_help() {
     cat << 'END'

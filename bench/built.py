@@ -4,7 +4,7 @@ import subprocess
 import sys
 
 TOP = os.path.realpath(os.path.join(os.path.dirname(os.path.abspath(__file__)), os.pardir))
-FIND = '. "$top/tools/find_program.sh" && { read_stamp || find_program; } && printf %s "$program"'
+FIND = '. "$top/tools/use/find_program.sh" && { read_stamp || find_program; } && printf %s "$program"'
 
 
 def program_of_sources():

@@ -1,6 +1,6 @@
 /** Random scripts for random modules, as text: the host writes, grows, sets, and calls within calls. */
 import { randomBits, randomGlobalBits } from './random_modules.mjs';
-import { valueText } from '../capture_parts/values.mjs';
+import { valueText } from '../../use/capture_parts/values.mjs';
 
 const BYTES = ['00', '7f', 'ff', '01', 'c0', '2a'];
 

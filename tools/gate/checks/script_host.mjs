@@ -5,7 +5,7 @@
  * that was played, and with those lines.
  */
 import fs from 'node:fs';
-import { moduleTypes } from '../capture_parts/module_types.mjs';
+import { moduleTypes } from '../../use/capture_parts/module_types.mjs';
 import { madeGlobal, number, printed, setGlobal } from './values_in_tests.mjs';
 
 export const NO_EXPORTS = 'there are no exports yet';

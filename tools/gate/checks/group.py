@@ -4,7 +4,7 @@ import os
 import subprocess
 import time
 
-ROOT = os.path.dirname(os.path.dirname(os.path.dirname(os.path.realpath(__file__))))
+ROOT = os.path.dirname(os.path.dirname(os.path.dirname(os.path.dirname(os.path.realpath(__file__)))))
 EXAMPLES = os.path.join(ROOT, "examples")
 
 # The seconds after which a call counts as hanging. A program that is built without optimization needs more.

@@ -23,7 +23,7 @@ echo "building" >&2
 exit 1
 """
 SOURCE = "crates/r3/src/main.rt"
-OURS = ("r3", "tools/find_program.sh", "tools/sources_digest", "VERSION")
+OURS = ("r3", "tools/use/find_program.sh", "tools/gate/sources_digest", "VERSION")
 
 
 class Copy:
@@ -51,7 +51,7 @@ class Copy:
         os.chmod(self.at(path), mode)
 
     def digest(self):
-        return self.group.done(program=self.at("tools/sources_digest")).decode().strip()
+        return self.group.done(program=self.at("tools/gate/sources_digest")).decode().strip()
 
     def put_program(self, folder, text):
         """Puts a program and what it was built from, the sources in place, into a folder."""

@@ -7,7 +7,7 @@ import { fileURLToPath } from 'node:url';
 
 const here = path.dirname(fileURLToPath(import.meta.url));
 
-export const root = path.resolve(here, '..', '..');
+export const root = path.resolve(here, '..', '..', '..');
 export const scriptHost = path.join(here, 'script_host.mjs');
 
 const MOST_OUTPUT = 1 << 28;

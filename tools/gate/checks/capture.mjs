@@ -94,7 +94,7 @@ function refused(runner) {
 
 function main([program]) {
   if (program === undefined) {
-    console.error('usage: tools/checks/capture.mjs PROGRAM');
+    console.error('usage: tools/gate/checks/capture.mjs PROGRAM');
     return 2;
   }
   const runner = new Runner(path.resolve(program));

@@ -1,7 +1,7 @@
 # What ./r3 and ./check share: which program was built from the sources in place. Sourced with `top` set to the top of
 # the repository; needs bash and coreutils.
 #
-# A program lies beside SOURCES, which has the digest of the sources that it was built from (tools/sources_digest),
+# A program lies beside SOURCES, which has the digest of the sources that it was built from (tools/gate/sources_digest),
 # and SHA256, which has the program's own. Both are compared only if something changed since they were last compared:
 # the file out/stamp has, for each folder of sources, for crates.txt and for the two programs, the sum of the files'
 # sizes and the latest time at which a file or folder in it changed (the ctime, in nanoseconds). Whoever writes,
@@ -43,14 +43,14 @@ is_of_sources() {
 find_program() {
     local places before after stamp room=''
     program=''
-    places=$("$top/tools/sources_digest" --places "$top") || exit 1
+    places=$("$top/tools/gate/sources_digest" --places "$top") || exit 1
     mapfile -t places <<< "$places"
     places+=(crates/r3/out/{r3,SOURCES,SHA256} release/{r3,SOURCES,SHA256})
     if mkdir -p "$top/out" 2> /dev/null; then
         room=$(mktemp "$top/out/stamp.XXXXXX" 2> /dev/null)
     fi
     before=$(sizes_and_times "${places[@]}")
-    digest=$("$top/tools/sources_digest" "$top") || { rm -f -- "$room"; exit 1; }
+    digest=$("$top/tools/gate/sources_digest" "$top") || { rm -f -- "$room"; exit 1; }
     if is_of_sources crates/r3/out; then
         program=crates/r3/out/r3
     elif is_of_sources release; then

@@ -4,9 +4,9 @@
  */
 import { moduleBytes } from './module_bytes.mjs';
 import { Random } from './random.mjs';
-import { markedModule } from '../capture_parts/marked_module.mjs';
-import { MemoryChanges, PAGE } from '../capture_parts/memory_changes.mjs';
-import { moduleTypes } from '../capture_parts/module_types.mjs';
+import { markedModule } from '../../use/capture_parts/marked_module.mjs';
+import { MemoryChanges, PAGE } from '../../use/capture_parts/memory_changes.mjs';
+import { moduleTypes } from '../../use/capture_parts/module_types.mjs';
 
 const STORED = ['i32', 'i64', 'f32', 'f64', 'i32', 'i32', 'i64', 'i64', 'i64'];
 const OFFSETS = [[0], [5], [0xf0, 0xa2, 4]];
