@@ -1,4 +1,4 @@
-"""Each status and line of README's table, by a call that ends with it; and the words of a call, with its numbers."""
+"""Each status and line of docs/STATUSES.md, by a call that ends with it; and the words of a call, with its numbers."""
 import hashlib
 import json
 import resource
