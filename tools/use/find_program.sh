@@ -84,9 +84,9 @@ find_program() {
 
 # Whether all times of a text of sizes_and_times are three seconds and more before a file was made.
 is_settled() {
-    local made size time place
+    local made size time
     made=$(stat -c %Z -- "$1") || return 1
-    while IFS=$'\t' read -r size time place; do
+    while IFS=$'\t' read -r size time _; do
         [[ $size == du:* ]] || [ "${time%.*}" -le $((made - 3)) ] || return 1
     done <<< "$2"
 }
