@@ -51,6 +51,7 @@ declare module 'node:child_process' {
 interface Buffer extends Uint8Array {
   toString(encoding?: string, start?: number, end?: number): string;
   equals(other: Uint8Array): boolean;
+  compare(other: Uint8Array, from?: number, to?: number, ownFrom?: number, ownTo?: number): number;
   indexOf(value: number | string | Uint8Array, from?: number): number;
 }
 declare const Buffer: {
