@@ -1,0 +1,202 @@
+/**
+ * The call paths of a run, as a tree. A node is a function under the path of its callers, and counts the turns that the
+ * function itself takes there, and how often it is called there. A module of its own counts, in a memory of its own,
+ * since the memory of the profiled module is the original's. The instrumented module calls three of its functions:
+ *
+ * - `enter(key, begin, now)` when an activation, which began at the turn `begin`, first calls a function;
+ * - `leave(now)` when such an activation returns;
+ * - `leaf(key, begin, now)` when an activation returns that has called nothing.
+ *
+ * The key of a function is its number plus 1. Turns between two of these calls are those of the node that control is
+ * in. Where there is no room for another node, a function has one node for all further paths.
+ */
+import { I32, I64, exportItem, importItem, KIND, moduleBytes, u32 } from '../wasm/index.mjs';
+import { EMPTY, OP, access, call, get, globalGet, globalSet, i32, set, tee } from './code.mjs';
+
+/** @import { Part } from '../wasm/encoding.mjs' */
+
+/** The most nodes, but for those of further paths. */
+export const MOST_PATHS = 1 << 18;
+
+/** A node's fields, by their places. */
+const FIELD = { self: 0, calls: 8, parent: 16, key: 20, lastKey: 24, lastChild: 28 };
+const NODE_BITS = 5;
+const NODE_SIZE = 1 << NODE_BITS;
+
+/** The turn that is counted to is at the start of the memory, so that another thread can read how far the run is. */
+const LAST = 0;
+const ROOT = 64;
+const SLOT_BITS = 19;
+const SLOTS = 1 << SLOT_BITS;
+
+/** Activations that may be open at once. Node.js has no room for more. */
+const MOST_DEPTH = 1 << 23;
+const PAGE = 65536;
+
+/** Where the parts of the memory are, for a number of functions. */
+function places(functions) {
+  const shared = ROOT + NODE_SIZE * MOST_PATHS;
+  const slots = shared + NODE_SIZE * (functions + 1);
+  const stack = slots + 4 * SLOTS;
+  return { shared, slots, stack, pages: Math.ceil((stack + 4 * MOST_DEPTH) / PAGE) };
+}
+
+const GLOBAL = { current: 0, top: 1, shared: 2 };
+const FUNCTION = { create: 0, find: 1, child: 2, enter: 3, leave: 4, leaf: 5 };
+
+/** Adds a number of 64 bits to a field of the node at a local's address. */
+/** @type {(node: number, field: number, number: Part[]) => Part[]} */
+const addTo = (node, field, number) =>
+  [get(node), get(node), access(OP.i64Load, field), number, OP.i64Add, access(OP.i64Store, field)];
+
+const ONE = [OP.i64Const, 1];
+const last = [i32(LAST), access(OP.i64Load, 0)];
+/** @type {(first: Part[], second: Part[]) => Part[]} */
+const difference = (first, second) => [first, second, OP.i64Sub];
+/** @type {(now: number) => Part[]} */
+const setLast = now => [i32(LAST), get(now), access(OP.i64Store, 0)];
+
+/** find(node, key): the child by the table of all nodes; it is created if it is missing. */
+function findBody(slots) {
+  const [node, key, slot, child] = [0, 1, 2, 3];
+  const hash = [get(node), i32(0x9e3779b1), OP.i32Mul, get(key), i32(0x85ebca6b), OP.i32Mul, OP.i32Xor,
+    i32(32 - SLOT_BITS), OP.i32ShrU];
+  const missing = [globalGet(GLOBAL.shared), OP.if, EMPTY,
+    globalGet(GLOBAL.shared), get(key), i32(NODE_BITS), OP.i32Shl, OP.i32Add, OP.return, OP.end,
+    get(node), get(key), get(slot), call(FUNCTION.create), OP.return];
+  const isField = (field, local) => [get(child), access(OP.i32Load, field), get(local), OP.i32Eq];
+  return [hash, set(slot), OP.loop, EMPTY,
+    get(slot), i32(2), OP.i32Shl, access(OP.i32Load, slots), tee(child), OP.i32Eqz, OP.if, EMPTY, missing, OP.end,
+    isField(FIELD.parent, node), isField(FIELD.key, key), OP.i32And, OP.if, EMPTY, get(child), OP.return, OP.end,
+    get(slot), i32(1), OP.i32Add, i32(SLOTS - 1), OP.i32And, set(slot), OP.br, 0, OP.end, OP.unreachable];
+}
+
+/** child(node, key): as find, but a node's last child is looked at first. */
+function childBody() {
+  const [node, key, child] = [0, 1, 2];
+  return [get(node), access(OP.i32Load, FIELD.lastKey), get(key), OP.i32Eq, OP.if, EMPTY,
+    get(node), access(OP.i32Load, FIELD.lastChild), OP.return, OP.end,
+    get(node), get(key), call(FUNCTION.find), set(child),
+    get(node), get(key), access(OP.i32Store, FIELD.lastKey), get(node), get(child),
+    access(OP.i32Store, FIELD.lastChild), get(child)];
+}
+
+/** What enter and leaf have in common: counts up to `now`, for the node that control is in and for its child. */
+function countedChild(node, child) {
+  const [key, begin, now] = [0, 1, 2];
+  return [globalGet(GLOBAL.current), set(node), addTo(node, FIELD.self, difference(get(begin), last)), setLast(now),
+    get(node), get(key), call(FUNCTION.child), set(child),
+    addTo(child, FIELD.self, difference(get(now), get(begin))), addTo(child, FIELD.calls, ONE)];
+}
+
+function enterBody() {
+  const [node, child] = [3, 4];
+  return [countedChild(node, child), globalGet(GLOBAL.top), get(node), access(OP.i32Store, 0),
+    globalGet(GLOBAL.top), i32(4), OP.i32Add, globalSet(GLOBAL.top), get(child), globalSet(GLOBAL.current)];
+}
+
+function leaveBody() {
+  const [now, node] = [0, 1];
+  return [globalGet(GLOBAL.current), set(node), addTo(node, FIELD.self, difference(get(now), last)), setLast(now),
+    globalGet(GLOBAL.top), i32(4), OP.i32Sub, globalSet(GLOBAL.top),
+    globalGet(GLOBAL.top), access(OP.i32Load, 0), globalSet(GLOBAL.current)];
+}
+
+/** The bytes of the module that counts. */
+function countingModule({ slots, stack, pages }) {
+  const types = [
+    { params: [I32, I32, I32], results: [I32] }, { params: [I32, I32], results: [I32] },
+    { params: [I32, I64, I64], results: [] }, { params: [I64], results: [] },
+  ];
+  const bodies = [
+    [[2, I32], findBody(slots)], [[1, I32], childBody()], [[2, I32], enterBody()], [[1, I32], leaveBody()],
+    [[2, I32], countedChild(3, 4)],
+  ].map(([[count, type], code]) => [1, count, type, code, OP.end]);
+  const global = value => [I32, 1, i32(value), OP.end];
+  return moduleBytes({
+    types,
+    imports: [importItem('js', 'create', KIND.function, 0), importItem('js', 'memory', KIND.memory, [3, u32(pages), u32(pages)])],
+    functions: [1, 1, 2, 3, 2],
+    globals: [global(ROOT), global(stack), global(0)],
+    exports: [exportItem('enter', KIND.function, FUNCTION.enter), exportItem('leave', KIND.function, FUNCTION.leave),
+      exportItem('leaf', KIND.function, FUNCTION.leaf), exportItem('shared', KIND.global, GLOBAL.shared)],
+    bodies,
+  });
+}
+
+/**
+ * A node as it is read after the run. `parent` is the number of another node, which comes before it, and -1 for the
+ * first node, which is the host. `func` is null for the host, and -1 for the node above those of further paths.
+ * @typedef {{ parent: number, func: number | null, self: number, calls: number }} PathNode
+ */
+
+export class CallPaths {
+  /** @param {number} functions how many functions there are */
+  constructor(functions) {
+    this.functions = functions;
+    this.places = places(functions);
+    const { pages } = this.places;
+    this.memory = new WebAssembly.Memory({ initial: pages, maximum: pages, shared: true });
+    this.words = new Int32Array(this.memory.buffer);
+    this.count = 1;
+    const module = new WebAssembly.Module(countingModule(this.places));
+    const js = { create: this.create.bind(this), memory: this.memory };
+    /** @type {any} */
+    this.counting = new WebAssembly.Instance(module, { js }).exports;
+  }
+
+  /** A new child of a node; where there is no room for it, the function's node for further paths. */
+  create(node, key, slot) {
+    if (this.count === MOST_PATHS) return this.share(key);
+    const child = ROOT + NODE_SIZE * this.count++;
+    this.words[(child + FIELD.parent) >> 2] = node;
+    this.words[(child + FIELD.key) >> 2] = key;
+    this.words[(this.places.slots >> 2) + slot] = child;
+    return child;
+  }
+
+  /** From now on each function has one node for all further paths. */
+  share(key) {
+    const { shared } = this.places;
+    this.counting.shared.value = shared;
+    return shared + NODE_SIZE * key;
+  }
+
+  /** Whether paths were put together for want of room. */
+  get isFull() {
+    return this.counting.shared.value !== 0;
+  }
+
+  /** Counts the turns up to the end of a run. `open` is what the innermost activation is, if it has called nothing. */
+  finish(now, open) {
+    if (open === null) this.counting.leave(now);
+    else this.counting.leaf(open.func + 1, open.begin, now);
+  }
+
+  /** @returns {PathNode[]} */
+  nodes() {
+    const numbers = new BigInt64Array(this.memory.buffer);
+    /** @type {PathNode[]} */
+    const nodes = [];
+    const at = (address, parent, func) => nodes.push({
+      parent, func, self: Number(numbers[(address + FIELD.self) >> 3]), calls: Number(numbers[(address + FIELD.calls) >> 3]),
+    });
+    at(ROOT, -1, null);
+    for (let count = 1; count < this.count; count++) {
+      const address = ROOT + NODE_SIZE * count;
+      const parent = (this.words[(address + FIELD.parent) >> 2] - ROOT) / NODE_SIZE;
+      at(address, parent, this.words[(address + FIELD.key) >> 2] - 1);
+    }
+    if (this.isFull) this.addShared(nodes, at);
+    return nodes;
+  }
+
+  addShared(nodes, at) {
+    const parent = nodes.length;
+    nodes.push({ parent: 0, func: -1, self: 0, calls: 0 });
+    for (let func = 0; func < this.functions; func++) {
+      at(this.places.shared + NODE_SIZE * (func + 1), parent, func);
+      if (nodes[nodes.length - 1].calls === 0) nodes.pop();
+    }
+  }
+}

@@ -1,0 +1,95 @@
+/** One run of a replay module that counts, and what was counted. */
+import { Border } from './border.mjs';
+import { CallPaths } from './call_paths.mjs';
+import { CountedModule, SHIFT } from './counted_module.mjs';
+import { refuse } from './refusal.mjs';
+
+/** @import { PathNode } from './call_paths.mjs' */
+/** @import { HostWeights } from './host_weights.mjs' */
+/** @import { Replay } from './replay_module.mjs' */
+/** @import { ScriptActions } from './script_actions.mjs' */
+
+/**
+ * `turns` are all that were counted; `isFull` says that paths were put together for want of room.
+ * @typedef {object} Counts
+ * @property {'ended' | 'trapped' | 'host-trapped'} outcome
+ * @property {number} turns
+ * @property {PathNode[]} nodes
+ * @property {boolean} isFull
+ * @property {Border} border
+ * @property {HostWeights} weights
+ */
+
+/** How V8 names a place in a module, in the first line of a stack that has one. */
+const PLACE = /wasm-function\[(\d+)\]:0x([0-9a-f]+)/;
+
+/** The function and the byte where the run trapped, in the counted module. */
+function placeOfTrap(error) {
+  const found = PLACE.exec(error.stack);
+  if (found === null) throw new Error(`the engine names no place of the trap: ${error.stack}`);
+  return { index: Number(found[1]), at: parseInt(found[2], 16) };
+}
+
+/** Runs to the end, and gives the error that ended the run, or null. */
+function errorOf(start) {
+  try {
+    start();
+    return null;
+  } catch (error) {
+    if (error instanceof WebAssembly.RuntimeError) return error;
+    if (error instanceof RangeError) {
+      return refuse('the engine\'s stack overflowed: calls are nested deeper than Node.js can');
+    }
+    throw error;
+  }
+}
+
+/** The module as the engine has it. */
+function compiled(bytes) {
+  try {
+    return new WebAssembly.Module(bytes);
+  } catch (error) {
+    return refuse(`the engine refuses the module that counts: ${error.message.replace(/^WebAssembly\.Module\(\): /, '')}`);
+  }
+}
+
+/**
+ * Runs a replay module.
+ * @param {Replay} replay
+ * @param {ScriptActions | null} actions the host's actions, if the script is known
+ * @param {string} what how a line names the replay module
+ * @param {{ watch: (memory: WebAssembly.Memory) => void, done: () => void }} progress
+ * @returns {Counts}
+ */
+export function countsOf(replay, actions, what, progress) {
+  const counted = new CountedModule(replay, actions, what);
+  const bytes = counted.bytes();
+  const paths = new CallPaths(replay.module.functions.length);
+  const border = new Border();
+  const module = compiled(bytes);
+  const { enter, leave, leaf } = paths.counting;
+  const count = { enter, leave, leaf, ...border.functions() };
+  const exports = /** @type {any} */ (new WebAssembly.Instance(module, { count }).exports);
+  progress.watch(paths.memory);
+  const error = errorOf(exports._start);
+  progress.done();
+  const end = endOf(error, counted, bytes, exports);
+  paths.finish(end.now, end.open);
+  border.finish(Number(end.now));
+  if (end.outcome === 'host-trapped') counted.weights.of(border.trapped).ends++;
+  return { outcome: end.outcome, turns: Number(end.now), nodes: paths.nodes(), isFull: paths.isFull, border,
+    weights: counted.weights };
+}
+
+/** How a run ended: `now` are its turns, `open` is the innermost activation if it has called nothing. */
+function endOf(error, counted, bytes, exports) {
+  const now = exports.now.value;
+  if (error === null) return { outcome: /** @type {const} */ ('ended'), now, open: null };
+  const { imports, main } = counted.replay;
+  const { index, at } = placeOfTrap(error);
+  const func = index - SHIFT;
+  if (func < imports || func >= main) return { outcome: /** @type {const} */ ('host-trapped'), now, open: null };
+  const begin = exports.begin.value;
+  const open = begin < 0n ? null : { func, begin };
+  return { outcome: /** @type {const} */ ('trapped'), now: now - BigInt(counted.undone(bytes, index, at)), open };
+}
