@@ -1,17 +1,19 @@
 /**
  * The call paths of a run, as a tree. A node is a function under the path of its callers, and counts the turns that the
- * function itself takes there, and how often it is called there. A module of its own counts, in a memory of its own,
- * since the memory of the profiled module is the original's. The instrumented module calls three of its functions:
+ * function itself takes there, and how often it is called there. A module of its own has the nodes, in a memory of its
+ * own, since the memory of the profiled module is the original's. The instrumented module calls two of its functions:
  *
- * - `enter(key, begin, now)` when an activation, which began at the turn `begin`, first calls a function;
- * - `leave(now)` when such an activation returns;
- * - `leaf(key, begin, now)` when an activation returns that has called nothing.
+ * - `enter(key, begin, node, top)` when an activation first calls a function. It began at the turn `begin`, and control
+ *   was in `node`. The result is the node of the activation. Node and turn are written at the address `top`, the top of
+ *   a list of the activations that are open;
+ * - `add(key, node, turns, calls)` when activations of a function under a node are over. They took so many turns, with
+ *   all that they called, which are then turns of the function's node, and not of the node above it.
  *
- * The key of a function is its number plus 1. Turns between two of these calls are those of the node that control is
- * in. Where there is no room for another node, a function has one node for all further paths.
+ * The key of a function is its number plus 1. Where there is no room for another node, a function has one node for all
+ * further paths.
  */
 import { I32, I64, exportItem, importItem, KIND, moduleBytes, u32 } from '../wasm/index.mjs';
-import { EMPTY, OP, access, call, get, globalGet, globalSet, i32, set, tee } from './code.mjs';
+import { EMPTY, OP, access, call, get, globalGet, i32, set, tee } from './code.mjs';
 
 /** @import { Part } from '../wasm/encoding.mjs' */
 
@@ -23,38 +25,35 @@ const FIELD = { self: 0, calls: 8, parent: 16, key: 20, lastKey: 24, lastChild: 
 const NODE_BITS = 5;
 const NODE_SIZE = 1 << NODE_BITS;
 
-/** The turn that is counted to is at the start of the memory, so that another thread can read how far the run is. */
-const LAST = 0;
-const ROOT = 64;
+/** The last turn that was seen is at the start of the memory, so that another thread can read how far the run is. */
+const NOW = 0;
+export const ROOT = 64;
 const SLOT_BITS = 19;
 const SLOTS = 1 << SLOT_BITS;
 
 /** Activations that may be open at once. Node.js has no room for more. */
-const MOST_DEPTH = 1 << 23;
+const MOST_DEPTH = 1 << 22;
 const PAGE = 65536;
 
 /** Where the parts of the memory are, for a number of functions. */
 function places(functions) {
   const shared = ROOT + NODE_SIZE * MOST_PATHS;
   const slots = shared + NODE_SIZE * (functions + 1);
-  const stack = slots + 4 * SLOTS;
-  return { shared, slots, stack, pages: Math.ceil((stack + 4 * MOST_DEPTH) / PAGE) };
+  const stack = (slots + 4 * SLOTS + 63) & ~63;
+  return { shared, slots, stack, pages: Math.ceil((stack + OPEN_SIZE * MOST_DEPTH) / PAGE) };
 }
 
-const GLOBAL = { current: 0, top: 1, shared: 2 };
-const FUNCTION = { create: 0, find: 1, child: 2, enter: 3, leave: 4, leaf: 5 };
+const GLOBAL = { shared: 0 };
+const FUNCTION = { create: 0, find: 1, child: 2, enter: 3, add: 4 };
+
+/** An open activation: the node that control was in, and the turn at which the activation began. */
+export const OPEN_SIZE = 16;
+const OPEN = { node: 0, begin: 8 };
 
 /** Adds a number of 64 bits to a field of the node at a local's address. */
-/** @type {(node: number, field: number, number: Part[]) => Part[]} */
-const addTo = (node, field, number) =>
-  [get(node), get(node), access(OP.i64Load, field), number, OP.i64Add, access(OP.i64Store, field)];
-
-const ONE = [OP.i64Const, 1];
-const last = [i32(LAST), access(OP.i64Load, 0)];
-/** @type {(first: Part[], second: Part[]) => Part[]} */
-const difference = (first, second) => [first, second, OP.i64Sub];
-/** @type {(now: number) => Part[]} */
-const setLast = now => [i32(LAST), get(now), access(OP.i64Store, 0)];
+/** @type {(node: number, field: number, number: Part[], op?: number) => Part[]} */
+const addTo = (node, field, number, op = OP.i64Add) =>
+  [get(node), get(node), access(OP.i64Load, field), number, op, access(OP.i64Store, field)];
 
 /** find(node, key): the child by the table of all nodes; it is created if it is missing. */
 function findBody(slots) {
@@ -74,52 +73,44 @@ function findBody(slots) {
 /** child(node, key): as find, but a node's last child is looked at first. */
 function childBody() {
   const [node, key, child] = [0, 1, 2];
-  return [get(node), access(OP.i32Load, FIELD.lastKey), get(key), OP.i32Eq, OP.if, EMPTY,
-    get(node), access(OP.i32Load, FIELD.lastChild), OP.return, OP.end,
-    get(node), get(key), call(FUNCTION.find), set(child),
+  return [get(node), get(key), call(FUNCTION.find), set(child),
     get(node), get(key), access(OP.i32Store, FIELD.lastKey), get(node), get(child),
     access(OP.i32Store, FIELD.lastChild), get(child)];
 }
 
-/** What enter and leaf have in common: counts up to `now`, for the node that control is in and for its child. */
-function countedChild(node, child) {
-  const [key, begin, now] = [0, 1, 2];
-  return [globalGet(GLOBAL.current), set(node), addTo(node, FIELD.self, difference(get(begin), last)), setLast(now),
-    get(node), get(key), call(FUNCTION.child), set(child),
-    addTo(child, FIELD.self, difference(get(now), get(begin))), addTo(child, FIELD.calls, ONE)];
-}
+/** The child of a node, into a local. Most often it is the last one. */
+const childInto = (child, node, key) => [get(node), access(OP.i32Load, FIELD.lastChild), set(child),
+  get(node), access(OP.i32Load, FIELD.lastKey), get(key), OP.i32Ne, OP.if, EMPTY,
+  get(node), get(key), call(FUNCTION.child), set(child), OP.end];
 
 function enterBody() {
-  const [node, child] = [3, 4];
-  return [countedChild(node, child), globalGet(GLOBAL.top), get(node), access(OP.i32Store, 0),
-    globalGet(GLOBAL.top), i32(4), OP.i32Add, globalSet(GLOBAL.top), get(child), globalSet(GLOBAL.current)];
+  const [key, begin, node, top, child] = [0, 1, 2, 3, 4];
+  return [get(top), get(node), access(OP.i32Store, OPEN.node), get(top), get(begin), access(OP.i64Store, OPEN.begin),
+    i32(NOW), get(begin), access(OP.i64Store, 0), childInto(child, node, key), get(child)];
 }
 
-function leaveBody() {
-  const [now, node] = [0, 1];
-  return [globalGet(GLOBAL.current), set(node), addTo(node, FIELD.self, difference(get(now), last)), setLast(now),
-    globalGet(GLOBAL.top), i32(4), OP.i32Sub, globalSet(GLOBAL.top),
-    globalGet(GLOBAL.top), access(OP.i32Load, 0), globalSet(GLOBAL.current)];
+function addBody() {
+  const [key, node, turns, calls, child] = [0, 1, 2, 3, 4];
+  return [get(calls), OP.i64Eqz, OP.if, EMPTY, OP.return, OP.end, childInto(child, node, key),
+    addTo(child, FIELD.self, get(turns)), addTo(node, FIELD.self, get(turns), OP.i64Sub),
+    addTo(child, FIELD.calls, get(calls))];
 }
 
-/** The bytes of the module that counts. */
-function countingModule({ slots, stack, pages }) {
+/** The bytes of the module that has the nodes. */
+function nodesModule({ slots, pages }) {
   const types = [
     { params: [I32, I32, I32], results: [I32] }, { params: [I32, I32], results: [I32] },
-    { params: [I32, I64, I64], results: [] }, { params: [I64], results: [] },
+    { params: [I32, I64, I32, I32], results: [I32] }, { params: [I32, I32, I64, I64], results: [] },
   ];
-  const bodies = [
-    [[2, I32], findBody(slots)], [[1, I32], childBody()], [[2, I32], enterBody()], [[1, I32], leaveBody()],
-    [[2, I32], countedChild(3, 4)],
-  ].map(([[count, type], code]) => [1, count, type, code, OP.end]);
-  const global = value => [I32, 1, i32(value), OP.end];
+  const bodies = [[2, findBody(slots)], [1, childBody()], [1, enterBody()], [1, addBody()]]
+    .map(([locals, code]) => [1, locals, I32, code, OP.end]);
   return moduleBytes({
     types,
     imports: [importItem('js', 'create', KIND.function, 0), importItem('js', 'memory', KIND.memory, [3, u32(pages), u32(pages)])],
-    functions: [1, 1, 2, 3, 2],
-    globals: [global(ROOT), global(stack), global(0)],
-    exports: [exportItem('enter', KIND.function, FUNCTION.enter), exportItem('leave', KIND.function, FUNCTION.leave),
-      exportItem('leaf', KIND.function, FUNCTION.leaf), exportItem('shared', KIND.global, GLOBAL.shared)],
+    functions: [1, 1, 2, 3],
+    globals: [[I32, 1, i32(0), OP.end]],
+    exports: [exportItem('enter', KIND.function, FUNCTION.enter), exportItem('add', KIND.function, FUNCTION.add),
+      exportItem('shared', KIND.global, GLOBAL.shared)],
     bodies,
   });
 }
@@ -139,7 +130,7 @@ export class CallPaths {
     this.memory = new WebAssembly.Memory({ initial: pages, maximum: pages, shared: true });
     this.words = new Int32Array(this.memory.buffer);
     this.count = 1;
-    const module = new WebAssembly.Module(countingModule(this.places));
+    const module = new WebAssembly.Module(nodesModule(this.places));
     const js = { create: this.create.bind(this), memory: this.memory };
     /** @type {any} */
     this.counting = new WebAssembly.Instance(module, { js }).exports;
@@ -167,10 +158,20 @@ export class CallPaths {
     return this.counting.shared.value !== 0;
   }
 
-  /** Counts the turns up to the end of a run. `open` is what the innermost activation is, if it has called nothing. */
-  finish(now, open) {
-    if (open === null) this.counting.leave(now);
-    else this.counting.leaf(open.func + 1, open.begin, now);
+  /**
+   * Counts the activations that a trap left open. `node` is the one that control was in, `top` where the list of open
+   * activations ends, `open` the innermost activation if it has called nothing.
+   */
+  finish(now, node, top, open) {
+    const numbers = new BigInt64Array(this.memory.buffer);
+    if (open !== null) this.counting.add(open.func + 1, node, now - open.begin, 1n);
+    for (let [child, at] = [node, top - OPEN_SIZE]; at >= this.places.stack; at -= OPEN_SIZE) {
+      const parent = this.words[(at + OPEN.node) >> 2];
+      const turns = now - numbers[(at + OPEN.begin) >> 3];
+      this.counting.add(this.words[(child + FIELD.key) >> 2], parent, turns, 1n);
+      child = parent;
+    }
+    numbers[(ROOT + FIELD.self) >> 3] += now;
   }
 
   /** @returns {PathNode[]} */

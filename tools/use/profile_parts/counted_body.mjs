@@ -4,6 +4,7 @@
  * right when the run traps or another function goes on. What a trap left undone of its block is taken off afterwards.
  */
 import { bodyOf, readInstruction, u32 } from '../wasm/index.mjs';
+import { OPEN_SIZE } from './call_paths.mjs';
 import { EMPTY, OP, call, get, globalGet, globalSet, i32, i64, set, tee } from './code.mjs';
 
 /** @import { Part } from '../wasm/encoding.mjs' */
@@ -11,15 +12,24 @@ import { EMPTY, OP, call, get, globalGet, globalSet, i32, i64, set, tee } from '
 /** @import { Module } from '../wasm/module.mjs' */
 
 /**
- * Where the instrumented module has what a body uses: the globals `now` and `begin` and the functions that count, and by
- * how much the numbers of functions are greater.
- * @typedef {{ now: number, begin: number, enter: number, leave: number, leaf: number, shift: number }} Places
+ * Where the instrumented module has what a body uses.
+ * @typedef {object} Places
+ * @property {number} now a global: the turns so far
+ * @property {number} begin a global: the turn at which the innermost activation began, or NOT_OPEN if it has called a
+ *   function or is over
+ * @property {number} node a global: the node of the innermost activation that has called a function
+ * @property {number} top a global: where the list of open activations ends
+ * @property {number} counts a global for each function that is defined, and two more: the node above, and the turns and
+ *   the calls that are not yet added to the function's node
+ * @property {number} imports how many functions the original imports
+ * @property {number} enter an imported function
+ * @property {number} add
+ * @property {number} shift by how much the numbers of functions are greater
  */
 
 const I32_TYPE = 0x7f;
 const I64_TYPE = 0x7e;
 
-/** What `begin` is while the innermost activation has called a function or is over. */
 export const NOT_OPEN = -1;
 
 const DIVISIONS = new Set([OP.i32DivS, OP.i32DivU, OP.i32RemS, OP.i32RemU, OP.i64DivS, OP.i64DivU, OP.i64RemS, OP.i64RemU]);
@@ -72,7 +82,8 @@ class BodyWriter {
     Object.assign(this, { bytes: module.bytes, places, key: index + 1 }, readBody(module, index));
     this.result = results.length === 0 ? EMPTY : results[0];
     const first = params.length + this.locals.reduce((sum, { count }) => sum + count, 0);
-    [this.count, this.begun, this.entered] = [first, first + 1, first + 2];
+    [this.count, this.begun, this.above] = [first, first + 1, first + 2];
+    this.counts = places.counts + 3 * (index - places.imports);
     this.calls = this.items.some(({ item }) => isCall(item.op));
     /** @type {Part[]} */
     this.written = [];
@@ -126,11 +137,12 @@ class BodyWriter {
     this.startBlock(0, isBehindCall);
   }
 
-  /** An activation that calls is entered before its first call. */
+  /** An activation gets its node before its first call. The node above it is then in a local, which is 0 before. */
   entry() {
-    const { begin, enter } = this.places;
-    return [get(this.entered), OP.i32Eqz, OP.if, EMPTY, i32(1), set(this.entered), i64(NOT_OPEN), globalSet(begin),
-      i32(this.key), get(this.begun), get(this.count), call(enter), OP.end];
+    const { begin, node, top, enter } = this.places;
+    return [get(this.above), OP.i32Eqz, OP.if, EMPTY, i64(NOT_OPEN), globalSet(begin),
+      i32(this.key), get(this.begun), globalGet(node), tee(this.above), globalGet(top), call(enter), globalSet(node),
+      globalGet(top), i32(OPEN_SIZE), OP.i32Add, globalSet(top), OP.end];
   }
 
   callPart(place) {
@@ -182,11 +194,23 @@ class BodyWriter {
     return [globalGet(now), tee(this.begun), tee(this.count), globalSet(begin), OP.block, this.result];
   }
 
+  /** Leaves the node that the activation got. */
+  exit() {
+    const { node, top } = this.places;
+    return [get(this.above), OP.if, EMPTY, get(this.above), globalSet(node),
+      globalGet(top), i32(OPEN_SIZE), OP.i32Sub, globalSet(top), OP.end];
+  }
+
+  /** Counts the activation. What is counted under another node above is added to its node before. */
   epilogue() {
-    const { now, begin, leave, leaf } = this.places;
-    const leafCall = [i32(this.key), get(this.begun), get(this.count), call(leaf)];
-    const left = [get(this.entered), OP.if, EMPTY, get(this.count), call(leave), OP.else, leafCall, OP.end];
-    return [get(this.count), globalSet(now), i64(NOT_OPEN), globalSet(begin), this.calls ? left : leafCall, OP.end];
+    const { now, begin, node, add } = this.places;
+    const [above, turns, calls] = [this.counts, this.counts + 1, this.counts + 2];
+    const change = [globalGet(node), globalGet(above), OP.i32Ne, OP.if, EMPTY,
+      i32(this.key), globalGet(above), globalGet(turns), globalGet(calls), call(add),
+      globalGet(node), globalSet(above), i64(0), globalSet(turns), i64(0), globalSet(calls), OP.end];
+    return [get(this.count), globalSet(now), i64(NOT_OPEN), globalSet(begin), this.calls ? this.exit() : [], change,
+      globalGet(turns), get(this.count), get(this.begun), OP.i64Sub, OP.i64Add, globalSet(turns),
+      globalGet(calls), i64(1), OP.i64Add, globalSet(calls), OP.end];
   }
 
   /** The whole body, without its size. */

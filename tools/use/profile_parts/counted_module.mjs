@@ -1,12 +1,13 @@
 /**
  * The replay module with counts: each function of the original counts its turns, and the functions of the host report
- * when control crosses the border. Seven functions are imported before all others, which have numbers greater by seven.
+ * when control crosses the border. Functions are imported before all others, whose numbers are greater by as many.
  */
 import {
   F64, I32, I64, KIND, Reader, SECTION, UnknownFormat, exportItem, flat, functionType, importItem, section, sized, u32,
   vector, MAGIC,
 } from '../wasm/index.mjs';
-import { OP, i64 } from './code.mjs';
+import { ROOT } from './call_paths.mjs';
+import { OP, call, globalGet, i32, i64 } from './code.mjs';
 import { NOT_OPEN, countedBody, turnsBehind } from './counted_body.mjs';
 import { AnswerBody, ForeignCode, ImportBody } from './host_body.mjs';
 import { HostWeights } from './host_weights.mjs';
@@ -18,12 +19,12 @@ import { foreignShape } from './replay_module.mjs';
 /** @import { ScriptActions } from './script_actions.mjs' */
 
 /** The imported functions in order, by the place of their type among the further types. */
-const IMPORTED = [['enter', 0], ['leave', 1], ['leaf', 0], ['importCall', 2], ['importReturn', 3], ['hostCall', 2],
-  ['hostReturn', 3]];
+const IMPORTED = [['enter', 0], ['add', 1], ['importCall', 2], ['importReturn', 3], ['hostCall', 2], ['hostReturn', 3]];
 const TYPES = [
-  { params: [I32, I64, I64], results: [] }, { params: [I64], results: [] }, { params: [I32, F64], results: [] },
-  { params: [F64], results: [] },
+  { params: [I32, I64, I32, I32], results: [I32] }, { params: [I32, I32, I64, I64], results: [] },
+  { params: [I32, F64], results: [] }, { params: [F64], results: [] }, { params: [], results: [] },
 ];
+const FLUSH_TYPE = 4;
 export const SHIFT = IMPORTED.length;
 
 /**
@@ -53,10 +54,10 @@ function elementSegment({ table, offset, functions, isDeclared }) {
 }
 
 /** Where the instrumented module has what its functions use. */
-function placesOf({ module }) {
+function placesOf({ module, imports }) {
   const now = module.globals.length;
   const imported = Object.fromEntries(IMPORTED.map(([name], index) => [name, index]));
-  return { now, begin: now + 1, shift: SHIFT, ...imported };
+  return { now, begin: now + 1, node: now + 2, top: now + 3, counts: now + 4, imports, shift: SHIFT, ...imported };
 }
 
 export class CountedModule {
@@ -64,9 +65,10 @@ export class CountedModule {
    * @param {Replay} replay
    * @param {ScriptActions | null} actions
    * @param {string} what how a line names the replay module
+   * @param {number} top where the list of open activations begins
    */
-  constructor(replay, actions, what) {
-    Object.assign(this, { replay, actions, what });
+  constructor(replay, actions, what, top) {
+    Object.assign(this, { replay, actions, what, top });
     this.places = placesOf(replay);
     this.weights = new HostWeights(replay.imports);
     /** Parts of bodies by the functions' numbers. @type {Part[][]} */
@@ -106,23 +108,41 @@ export class CountedModule {
     this.bodies[index] = body.body();
   }
 
+  globals() {
+    const wide = value => [I64, 1, i64(value), OP.end];
+    const narrow = value => [I32, 1, i32(value), OP.end];
+    const counts = Array.from({ length: this.replay.functions }, () => [narrow(0), wide(0), wide(0)]);
+    return [wide(0), wide(NOT_OPEN), narrow(ROOT), narrow(this.top), ...counts.flat()];
+  }
+
+  /** The function that adds to the nodes what is not yet added at the end of a run. */
+  flushBody() {
+    const { counts, add } = this.places;
+    const { imports, functions } = this.replay;
+    const each = Array.from({ length: functions }, (_, place) => [i32(imports + place + 1),
+      [0, 1, 2].map(further => globalGet(counts + 3 * place + further)), call(add)]);
+    return [0, each, OP.end];
+  }
+
   /** The sections that differ from those of the replay module, by their numbers. */
   sections() {
     const { replay } = this;
     const { module, main } = replay;
     const first = module.types.length;
     const imports = IMPORTED.map(([name, type]) => importItem('count', name, KIND.function, u32(first + type)));
-    const globals = [0, NOT_OPEN].map(value => [I64, 1, i64(value), OP.end]);
-    const exports = [exportItem('_start', KIND.function, main + SHIFT), exportItem('now', KIND.global, this.places.now),
-      exportItem('begin', KIND.global, this.places.begin)];
+    const { now, begin, node, top } = this.places;
+    const flush = module.functions.length + SHIFT;
+    const exports = [exportItem('_start', KIND.function, main + SHIFT), exportItem('flush', KIND.function, flush),
+      ...Object.entries({ now, begin, node, top }).map(([name, index]) => exportItem(name, KIND.global, index))];
     /** @type {[number, () => Part[]][]} */
     const changed = [
       [SECTION.type, () => withMore(replay, SECTION.type, TYPES.map(functionType))],
       [SECTION.import, () => section(SECTION.import, vector(imports))],
-      [SECTION.global, () => withMore(replay, SECTION.global, globals)],
+      [SECTION.global, () => withMore(replay, SECTION.global, this.globals())],
+      [SECTION.function, () => withMore(replay, SECTION.function, [u32(first + FLUSH_TYPE)])],
       [SECTION.export, () => section(SECTION.export, vector(exports))],
       [SECTION.element, () => section(SECTION.element, vector(module.elements.map(elementSegment)))],
-      [SECTION.code, () => section(SECTION.code, vector(this.bodies.map(sized)))],
+      [SECTION.code, () => section(SECTION.code, vector([...this.bodies, this.flushBody()].map(sized)))],
     ];
     return new Map(changed);
   }

@@ -3,8 +3,9 @@
  * what they do is weighed, and they are written again with calls that report when control crosses the border between
  * host and module, and with the host's turns.
  */
-import { bodyOf, readInstruction, u32 } from '../wasm/index.mjs';
-import { OP, call, globalGet, globalSet, i32, i64 } from './code.mjs';
+import { I32, I64, bodyOf, readInstruction, u32 } from '../wasm/index.mjs';
+import { OPEN_SIZE } from './call_paths.mjs';
+import { OP, call, get, globalGet, globalSet, i32, i64, tee } from './code.mjs';
 
 /** @import { Part } from '../wasm/encoding.mjs' */
 /** @import { Instruction } from '../wasm/instructions.mjs' */
@@ -27,8 +28,10 @@ const SIZES = new Set([OP.memorySize, OP.tableSize, OP.i32Sub, OP.drop]);
  * Where the instrumented module has what the host's functions use.
  * @typedef {object} HostPlaces
  * @property {number} now a global
+ * @property {number} node a global
+ * @property {number} top a global
  * @property {number} enter functions from here on
- * @property {number} leave
+ * @property {number} add
  * @property {number} importCall
  * @property {number} importReturn
  * @property {number} hostCall
@@ -44,11 +47,8 @@ const SIZES = new Set([OP.memorySize, OP.tableSize, OP.i32Sub, OP.drop]);
  *   then behind the last one; null if they are not known
  */
 
-/** @param {Module} module @param {number} index @returns {Part[]} */
-function localGroups(module, index) {
-  const { locals } = bodyOf(module, index);
-  return [u32(locals.length), locals.map(({ count, type }) => [u32(count), type])];
-}
+/** @param {{ count: number, type: number }[]} locals @returns {Part[]} */
+const localGroups = locals => [u32(locals.length), locals.map(({ count, type }) => [u32(count), type])];
 
 /** The function in an import's place: it leads to the functions that answer 256 calls each. */
 export class ImportBody {
@@ -66,10 +66,12 @@ export class ImportBody {
   /** @returns {Part[]} */
   body() {
     const { module, index, places } = this;
-    const { reader } = bodyOf(module, index);
+    const { locals, reader } = bodyOf(module, index);
+    const first = module.functions[index].params.length + locals.reduce((sum, { count }) => sum + count, 0);
+    [this.above, this.begun] = [first, first + 1];
+    const groups = [...locals, { count: 1, type: I32 }, { count: 1, type: I64 }];
     /** @type {Part[]} */
-    const parts = [localGroups(module, index), i32(index + 1), globalGet(places.now), globalGet(places.now),
-      call(places.enter), i32(index), time(places), call(places.importCall)];
+    const parts = [localGroups(groups), this.enter()];
     while (!reader.isAtEnd) {
       const begin = reader.at;
       const item = readInstruction(reader);
@@ -84,9 +86,18 @@ export class ImportBody {
     return parts;
   }
 
+  enter() {
+    const { now, node, top, enter, importCall } = this.places;
+    return [i32(this.index + 1), globalGet(now), tee(this.begun), globalGet(node), tee(this.above), globalGet(top),
+      call(enter), globalSet(node), globalGet(top), i32(OPEN_SIZE), OP.i32Add, globalSet(top),
+      i32(this.index), time(this.places), call(importCall)];
+  }
+
   leave() {
-    const { now, leave, importReturn } = this.places;
-    return [globalGet(now), call(leave), time(this.places), call(importReturn)];
+    const { now, node, top, add, importReturn } = this.places;
+    return [get(this.above), globalSet(node), globalGet(top), i32(OPEN_SIZE), OP.i32Sub, globalSet(top),
+      i32(this.index + 1), get(this.above), globalGet(now), get(this.begun), OP.i64Sub, i64(1), call(add),
+      time(this.places), call(importReturn)];
   }
 }
 
@@ -128,7 +139,8 @@ export class AnswerBody {
   body() {
     const begin = this.reader.at;
     const arms = this.firstCall === null ? 1 : this.readHead();
-    const parts = [localGroups(this.module, this.index), this.module.bytes.subarray(begin, this.reader.at)];
+    const { locals } = bodyOf(this.module, this.index);
+    const parts = [localGroups(locals), this.module.bytes.subarray(begin, this.reader.at)];
     for (let arm = 0; arm < arms; arm++) parts.push(this.arm((this.firstCall ?? 0) + arm));
     parts.push(this.module.bytes.subarray(this.reader.at, this.reader.end));
     return parts;

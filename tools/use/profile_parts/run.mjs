@@ -62,19 +62,20 @@ function compiled(bytes) {
  * @returns {Counts}
  */
 export function countsOf(replay, actions, what, progress) {
-  const counted = new CountedModule(replay, actions, what);
-  const bytes = counted.bytes();
   const paths = new CallPaths(replay.module.functions.length);
+  const counted = new CountedModule(replay, actions, what, paths.places.stack);
+  const bytes = counted.bytes();
   const border = new Border();
   const module = compiled(bytes);
-  const { enter, leave, leaf } = paths.counting;
-  const count = { enter, leave, leaf, ...border.functions() };
+  const { enter, add } = paths.counting;
+  const count = { enter, add, ...border.functions() };
   const exports = /** @type {any} */ (new WebAssembly.Instance(module, { count }).exports);
   progress.watch(paths.memory);
   const error = errorOf(exports._start);
   progress.done();
   const end = endOf(error, counted, bytes, exports);
-  paths.finish(end.now, end.open);
+  exports.flush();
+  paths.finish(end.now, exports.node.value, exports.top.value, end.open);
   border.finish(Number(end.now));
   if (end.outcome === 'host-trapped') counted.weights.of(border.trapped).ends++;
   return { outcome: end.outcome, turns: Number(end.now), nodes: paths.nodes(), isFull: paths.isFull, border,
