@@ -15,8 +15,7 @@ import { EMPTY, OP, call, get, globalGet, globalSet, i32, i64, set, tee } from '
  * Where the instrumented module has what a body uses.
  * @typedef {object} Places
  * @property {number} now a global: the turns so far
- * @property {number} begin a global: the turn at which the innermost activation began, or NOT_OPEN if it has called a
- *   function or is over
+ * @property {number} begin a global: the turn at which the last activation began
  * @property {number} node a global: the node of the innermost activation that has called a function
  * @property {number} top a global: where the list of open activations ends
  * @property {number} counts a global for each function that is defined, and two more: the node above, and the turns and
@@ -29,8 +28,6 @@ import { EMPTY, OP, call, get, globalGet, globalSet, i32, i64, set, tee } from '
 
 const I32_TYPE = 0x7f;
 const I64_TYPE = 0x7e;
-
-export const NOT_OPEN = -1;
 
 const DIVISIONS = new Set([OP.i32DivS, OP.i32DivU, OP.i32RemS, OP.i32RemU, OP.i64DivS, OP.i64DivU, OP.i64RemS, OP.i64RemU]);
 const FIRST_TRUNCATION = 0xa8;
@@ -139,8 +136,8 @@ class BodyWriter {
 
   /** An activation gets its node before its first call. The node above it is then in a local, which is 0 before. */
   entry() {
-    const { begin, node, top, enter } = this.places;
-    return [get(this.above), OP.i32Eqz, OP.if, EMPTY, i64(NOT_OPEN), globalSet(begin),
+    const { node, top, enter } = this.places;
+    return [get(this.above), OP.i32Eqz, OP.if, EMPTY,
       i32(this.key), get(this.begun), globalGet(node), tee(this.above), globalGet(top), call(enter), globalSet(node),
       globalGet(top), i32(OPEN_SIZE), OP.i32Add, globalSet(top), OP.end];
   }
@@ -203,12 +200,12 @@ class BodyWriter {
 
   /** Counts the activation. What is counted under another node above is added to its node before. */
   epilogue() {
-    const { now, begin, node, add } = this.places;
+    const { now, node, add } = this.places;
     const [above, turns, calls] = [this.counts, this.counts + 1, this.counts + 2];
     const change = [globalGet(node), globalGet(above), OP.i32Ne, OP.if, EMPTY,
       i32(this.key), globalGet(above), globalGet(turns), globalGet(calls), call(add),
       globalGet(node), globalSet(above), i64(0), globalSet(turns), i64(0), globalSet(calls), OP.end];
-    return [get(this.count), globalSet(now), i64(NOT_OPEN), globalSet(begin), this.calls ? this.exit() : [], change,
+    return [get(this.count), globalSet(now), this.calls ? this.exit() : [], change,
       globalGet(turns), get(this.count), get(this.begun), OP.i64Sub, OP.i64Add, globalSet(turns),
       globalGet(calls), i64(1), OP.i64Add, globalSet(calls), OP.end];
   }

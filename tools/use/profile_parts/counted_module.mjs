@@ -8,7 +8,7 @@ import {
 } from '../wasm/index.mjs';
 import { ROOT } from './call_paths.mjs';
 import { OP, call, globalGet, i32, i64 } from './code.mjs';
-import { NOT_OPEN, countedBody, turnsBehind } from './counted_body.mjs';
+import { countedBody, turnsBehind } from './counted_body.mjs';
 import { AnswerBody, ForeignCode, ImportBody } from './host_body.mjs';
 import { HostWeights } from './host_weights.mjs';
 import { foreignShape } from './replay_module.mjs';
@@ -112,7 +112,7 @@ export class CountedModule {
     const wide = value => [I64, 1, i64(value), OP.end];
     const narrow = value => [I32, 1, i32(value), OP.end];
     const counts = Array.from({ length: this.replay.functions }, () => [narrow(0), wide(0), wide(0)]);
-    return [wide(0), wide(NOT_OPEN), narrow(ROOT), narrow(this.top), ...counts.flat()];
+    return [wide(0), wide(0), narrow(ROOT), narrow(this.top), ...counts.flat()];
   }
 
   /** The function that adds to the nodes what is not yet added at the end of a run. */
@@ -161,14 +161,13 @@ export class CountedModule {
   }
 
   /**
-   * How many turns a trap left undone of its block. `index` and `at` are the function and the byte that the engine names.
+   * How many turns a trap left undone of its block.
    * @param {Uint8Array} bytes the counted module
-   * @param {number} index
-   * @param {number} at
+   * @param {number} index the function
+   * @param {number} at the byte of the counted module that the engine names
    */
   undone(bytes, index, at) {
-    const code = bodiesOf(bytes)[index - SHIFT];
-    return turnsBehind(this.replay.module, index - SHIFT, this.places, at - code);
+    return turnsBehind(this.replay.module, index, this.places, at - bodiesOf(bytes)[index]);
   }
 }
 

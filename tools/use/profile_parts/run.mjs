@@ -1,6 +1,6 @@
 /** One run of a replay module that counts, and what was counted. */
 import { Border } from './border.mjs';
-import { CallPaths } from './call_paths.mjs';
+import { CallPaths, OPEN_SIZE } from './call_paths.mjs';
 import { CountedModule, SHIFT } from './counted_module.mjs';
 import { refuse } from './refusal.mjs';
 
@@ -20,18 +20,19 @@ import { refuse } from './refusal.mjs';
  * @property {HostWeights} weights
  */
 
-/** How V8 names a place in a module, in the first line of a stack that has one. */
-const PLACE = /wasm-function\[(\d+)\]:0x([0-9a-f]+)/;
+/** How V8 names a place in a module, in a line of a stack. */
+const PLACE = /wasm-function\[(\d+)\]:0x([0-9a-f]+)/g;
 
-/** The function and the byte where the run trapped, in the counted module. */
-function placeOfTrap(error) {
-  const found = PLACE.exec(error.stack);
-  if (found === null) throw new Error(`the engine names no place of the trap: ${error.stack}`);
-  return { index: Number(found[1]), at: parseInt(found[2], 16) };
+/** Where the run trapped, in the counted module, and the functions of the activations that were open then. */
+function trapOf(error) {
+  const places = [...error.stack.matchAll(PLACE)];
+  if (places.length === 0) throw new Error(`the engine names no place of the trap: ${error.stack}`);
+  return { at: parseInt(places[0][2], 16), functions: places.map(([, index]) => Number(index) - SHIFT) };
 }
 
 /** Runs to the end, and gives the error that ended the run, or null. */
 function errorOf(start) {
+  Error.stackTraceLimit = Infinity;
   try {
     start();
     return null;
@@ -87,10 +88,11 @@ function endOf(error, counted, bytes, exports) {
   const now = exports.now.value;
   if (error === null) return { outcome: /** @type {const} */ ('ended'), now, open: null };
   const { imports, main } = counted.replay;
-  const { index, at } = placeOfTrap(error);
-  const func = index - SHIFT;
+  const { at, functions } = trapOf(error);
+  const [func] = functions;
   if (func < imports || func >= main) return { outcome: /** @type {const} */ ('host-trapped'), now, open: null };
-  const begin = exports.begin.value;
-  const open = begin < 0n ? null : { func, begin };
-  return { outcome: /** @type {const} */ ('trapped'), now: now - BigInt(counted.undone(bytes, index, at)), open };
+  const activations = functions.filter(index => index < main).length;
+  const hasNode = activations * OPEN_SIZE === exports.top.value - counted.top;
+  const open = hasNode ? null : { func, begin: exports.begin.value };
+  return { outcome: /** @type {const} */ ('trapped'), now: now - BigInt(counted.undone(bytes, func, at)), open };
 }
