@@ -1,0 +1,1 @@
+export function* page(report) { yield JSON.stringify(report); }
