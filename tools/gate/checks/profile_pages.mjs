@@ -157,21 +157,19 @@ function ended(child) {
 }
 
 /**
- * The faults of a page by browsers, and notes on browsers that are not installed.
+ * Checks of a page by browsers, which are open at the same time, and notes on browsers that are not installed.
  * @param {string} page
  * @param {string} folder
  */
-export async function pageFaults(page, folder) {
-  const [checks, notes] = [[], []];
-  for (const browser of BROWSERS) {
+export async function pageCases(page, folder) {
+  const files = BROWSERS.map(({ names }) => found(names));
+  const notes = BROWSERS.filter((_, place) => files[place] === undefined)
+    .map(({ names }) => `${names[0]} is not here: the page of a profile is not opened in it`);
+  const opened = BROWSERS.map(async (browser, place) => {
     const [name] = browser.names;
-    const file = found(browser.names);
-    if (file === undefined) {
-      notes.push(`${name} is not here: the page is not opened in it`);
-      continue;
-    }
-    const faults = await faultsIn(file, browser, pageInUse(page), path.join(folder, name));
-    checks.push([`the page in ${name}`, () => (faults.length === 0 ? null : faults.join('; '))]);
-  }
-  return { checks, notes };
+    if (files[place] === undefined) return [];
+    const faults = await faultsIn(files[place], browser, pageInUse(page), path.join(folder, name));
+    return [[name, () => (faults.length === 0 ? null : faults.join('; '))]];
+  });
+  return { checks: (await Promise.all(opened)).flat(), notes };
 }

@@ -3,7 +3,7 @@
  * what they do is weighed, and they are written again with calls that report when control crosses the border between
  * host and module, and with the host's turns.
  */
-import { I32, I64, bodyOf, readInstruction, u32 } from '../wasm/index.mjs';
+import { I32, I64, bodyOf, instructionName, readInstruction, u32 } from '../wasm/index.mjs';
 import { OPEN_SIZE } from './call_paths.mjs';
 import { OP, call, get, globalGet, globalSet, i32, i64, tee } from './code.mjs';
 
@@ -50,6 +50,10 @@ const SIZES = new Set([OP.memorySize, OP.tableSize, OP.i32Sub, OP.drop]);
 /** @param {{ count: number, type: number }[]} locals @returns {Part[]} */
 const localGroups = locals => [u32(locals.length), locals.map(({ count, type }) => [u32(count), type])];
 
+/** The instructions of the function in an import's place, by their names. */
+const IMPORT_FORM = new RegExp(`^${['global.get', 'local.tee', 'i32.const', 'i32.add', 'global.set', '(block )+local.get',
+  'i32.const', 'i32.div_u', 'br_table', 'end', '(local.get call return end )*unreachable', 'end', '$'].join(' ')}`);
+
 /** The function in an import's place: it leads to the functions that answer 256 calls each. */
 export class ImportBody {
   /**
@@ -72,9 +76,11 @@ export class ImportBody {
     const groups = [...locals, { count: 1, type: I32 }, { count: 1, type: I64 }];
     /** @type {Part[]} */
     const parts = [localGroups(groups), this.enter()];
+    let form = '';
     while (!reader.isAtEnd) {
       const begin = reader.at;
       const item = readInstruction(reader);
+      form += `${instructionName(item.op)} `;
       if (item.op === OP.call) {
         this.groups.push(item.index);
         parts.push(call(item.index + places.shift));
@@ -83,6 +89,7 @@ export class ImportBody {
         parts.push(module.bytes.subarray(begin, reader.at));
       }
     }
+    if (!IMPORT_FORM.test(form)) throw new ForeignCode();
     return parts;
   }
 
@@ -151,15 +158,15 @@ export class AnswerBody {
     if (this.owner.import_ !== null) this.weight.calls++;
     const turns = this.owner.actions(number);
     const parts = [];
-    let calls = 0;
+    let [calls, last] = [0, OP.end];
     for (;;) {
       const begin = this.reader.at;
       const item = readInstruction(this.reader);
       const same = this.module.bytes.subarray(begin, this.reader.at);
-      if (item.op === OP.end) {
-        parts.push(same);
-        return parts;
-      }
+      const isOver = last === OP.return || last === OP.unreachable;
+      if (isOver !== (item.op === OP.end)) throw new ForeignCode();
+      last = item.op;
+      if (isOver) return [parts, same];
       if (item.op === OP.call) parts.push(this.hostCall(item.index, turns === null ? 1 : turns[calls++]));
       else if (item.op === OP.refFunc) parts.push([OP.refFunc, u32(item.index + this.places.shift)]);
       else if (item.op === OP.return || item.op === OP.unreachable) parts.push(this.lastTurns(turns, calls), same);
