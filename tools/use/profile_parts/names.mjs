@@ -44,9 +44,7 @@ class Comparison {
 
   isSameFunction(index) {
     const [one, other] = [bodyOf(this.original, index), bodyOf(this.replay.module, this.number(index))];
-    const types = ({ locals }) => locals.flatMap(({ count, type }) => (count > 0 ? [`${type}*${count}`] : [])).join();
-    const spread = ({ locals }) => locals.reduce((sum, { count }) => sum + count, 0);
-    if (spread(one) !== spread(other) || (types(one) !== types(other) && !isSameList(one.locals, other.locals))) return false;
+    if (listed(one.locals) !== listed(other.locals)) return false;
     while (!one.reader.isAtEnd && !other.reader.isAtEnd) {
       const [left, right] = [readInstruction(one.reader), readInstruction(other.reader)];
       if (left.op !== right.op || !this.isSameIndex(left, right) || immediates(left) !== immediates(right)) return false;
@@ -71,19 +69,16 @@ class Comparison {
   }
 }
 
-/** Whether groups of locals are the same list of types. */
-function isSameList(one, other) {
-  const merged = groups => {
-    const list = [];
-    for (const { count, type } of groups) {
-      const last = list.at(-1);
-      if (count === 0) continue;
-      if (last?.type === type) last.count += count;
-      else list.push({ count, type });
-    }
-    return JSON.stringify(list);
-  };
-  return merged(one) === merged(other);
+/** A text that groups of locals have in common if they are the same list of types. */
+function listed(groups) {
+  const list = [];
+  for (const { count, type } of groups) {
+    const last = list.at(-1);
+    if (count === 0) continue;
+    if (last?.type === type) last.count += count;
+    else list.push({ count, type });
+  }
+  return JSON.stringify(list);
 }
 
 /** Names of which no two are equal: of equal ones all get their numbers. */

@@ -46,9 +46,9 @@ export function sentences(report) {
       ? counted(report.actions, 'action') + ' of the host' : counted(report.actions, 'call') + ' by the host'}; ${
       OUTCOMES[report.outcome]}`,
     ...(report.hasScript ? [] : ['other actions of the host are not counted: a replay module does not have them']),
-    `the host calls the module ${counted(border.hostCalls, 'time')}, and ${counted(border.hostReturns, 'call')} return; `
-      + `the module calls imports ${counted(border.importCalls, 'time')}, and ${counted(border.importReturns, 'call')} return`,
-    `the replay's tape weighs ${grouped(report.weight)}; the run reads ${counted(read, 'byte')} that the host writes, in `
+    `calls by the host: ${grouped(border.hostCalls)}, of which ${grouped(border.hostReturns)} return; calls of imports: ${
+      grouped(border.importCalls)}, of which ${grouped(border.importReturns)} return`,
+    `the replay's tape weighs ${counted(report.weight, 'unit')}; the run reads ${counted(read, 'byte')} that the host writes, in `
       + `${counted(memory.pages.length, 'page')} of the memory`,
     ...(report.arePathsShortened ? ['there are too many call paths: further ones are put together by functions'] : []),
     ...(line.isThinned ? [`the time line has ${grouped(line.calls.length)} of ${counted(line.all, 'call')}`] : []),

@@ -39,7 +39,7 @@ class TimeLine {
     const context = this.canvas.getContext('2d');
     context.scale(ratio, ratio);
     const style = getComputedStyle(document.documentElement);
-    this.colors = Object.fromEntries(['module', 'host', 'text', 'edge'].map(name => [name, style.getPropertyValue(`--${name}`)]));
+    this.colors = Object.fromEntries(['module', 'host', 'text', 'edge', 'bar-text'].map(name => [name, style.getPropertyValue(`--${name}`)]));
     context.font = '11px system-ui, "Liberation Sans", "DejaVu Sans", sans-serif';
     this.drawAxis(context, height);
     this.drawBar(context, 0, this.turns, 0, this.colors.host, 'host');
@@ -71,7 +71,7 @@ class TimeLine {
     context.beginPath();
     context.rect(left, AXIS + row * LINE_ROW, right - left - 2, LINE_ROW);
     context.clip();
-    context.fillStyle = '#ffffff';
+    context.fillStyle = this.colors['bar-text'];
     context.fillText(name, left + 4, AXIS + row * LINE_ROW + 12);
     context.restore();
   }
