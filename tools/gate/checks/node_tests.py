@@ -34,4 +34,5 @@ def run(group, script, oldest, tool):
     group.passed += int(total.group(1))
     group.notes += [line[len("note: "):] for line in lines if line.startswith("note: ")]
     group.faults += [line.strip() for line in lines[:-1] if line.startswith("  ")]
-    group.expect(ran.returncode == 0 and int(total.group(1)) > 0, f"the tests end with status 0, and not {ran.returncode}")
+    is_well = ran.returncode == 0 and int(total.group(1)) > 0
+    group.expect(is_well, f"the tests end with status 0, and not {ran.returncode}")

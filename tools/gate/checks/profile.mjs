@@ -3,6 +3,7 @@
  * The tests of `profile`. The one word is the program r3. Prints a line for each group, and at the end how many checks
  * passed and failed; the status is 1 if any failed.
  */
+import fs from 'node:fs';
 import path from 'node:path';
 import { limitCases } from './profile_limits.mjs';
 import { benchCases, exampleCases, randomCases } from './profile_numbers.mjs';
@@ -13,7 +14,9 @@ import { Runner, Tally, root } from './running.mjs';
 /** The page of a run with calls within calls. */
 function page(runner) {
   const files = ['matcher.wasm', 'matcher.json'].map(name => path.join(root, 'bench', name));
-  return profile(runner, ['--html', '/dev/stdout', ...files]).output.toString();
+  const file = path.join(runner.folder, 'matcher.html');
+  profile(runner, ['--html', file, ...files]);
+  return fs.readFileSync(file, 'utf8');
 }
 
 async function main([program]) {

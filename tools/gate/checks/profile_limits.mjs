@@ -1,7 +1,7 @@
 /** What `profile` does where a run has very many calls or call paths, or names are those of another module. */
-import { Random } from './random.mjs';
-import { randomModule } from './random_modules.mjs';
-import { I32, KIND, MAGIC, exportItem, flat, moduleBytes, name, nameSection, section, u32 } from '../../use/wasm/index.mjs';
+import {
+  I32, KIND, exportItem, flat, moduleBytes, name, nameSection, readModule, section, u32,
+} from '../../use/wasm/index.mjs';
 import { Border, MOST_CALLS } from '../../use/profile_parts/border.mjs';
 import { MOST_PATHS } from '../../use/profile_parts/call_paths.mjs';
 import { namesOf } from '../../use/profile_parts/names.mjs';
@@ -30,24 +30,31 @@ function thinned() {
   const longs = border.kept.filter(({ isImport, begin, end }) => isImport && end > begin).length;
   if (longs !== calls / long) return `${longs} long calls are kept`;
   const [first, last] = [border.kept[0], border.kept.at(-1)];
-  return !first.isImport && first.end === calls && last.begin > 0.9 * calls ? null : 'the kept calls are not of the whole run';
+  const isWhole = !first.isImport && first.end === calls && last.begin > 0.9 * calls;
+  return isWhole ? null : 'the kept calls are not of the whole run';
 }
 
 /**
- * A replay module of two functions, which call themselves and each other: function i calls both with a number less by 1,
- * until it is 0. So there are two paths for each path of the level above.
+ * A replay module of two functions, which call themselves and each other, with a number less by 1, until it is 0. So
+ * there are two paths for each path of the level above.
  */
 function branching() {
-  const body = [0, 0x20, 0, 0x04, 0x40, ...[0, 1].flatMap(callee => [0x20, 0, 0x41, 1, 0x6b, 0x10, callee]), 0x0b, 0x0b];
+  const { types, functions, bodies } = branchingParts();
   const start = [0, 0x41, DEPTH, 0x10, 0, 0x0f, 0x0b];
   const module = moduleBytes({
-    types: [{ params: [I32], results: [] }, { params: [], results: [] }], functions: [0, 0, 1],
-    exports: [exportItem('_start', KIND.function, 2)], bodies: [body, body, start],
+    types: [...types, { params: [], results: [] }], functions: [...functions, 1], bodies: [...bodies, start],
+    exports: [exportItem('_start', KIND.function, 2)],
   });
   return flat([module, section(0, [name('r3.layout'), u32(0), u32(2)])]);
 }
 
-/** Where there are more paths than room, turns by function are exact. An activation takes 2 turns, one that calls 10. */
+function branchingParts() {
+  const calls = [0, 1].flatMap(callee => [0x20, 0, 0x41, 1, 0x6b, 0x10, callee]);
+  const body = [0, 0x20, 0, 0x04, 0x40, ...calls, 0x0b, 0x0b];
+  return { types: [{ params: [I32], results: [] }], functions: [0, 0], bodies: [body, body] };
+}
+
+/** Where paths have no room, turns by function are exact. An activation takes 10 turns, or 2 if it calls nothing. */
 function manyPaths() {
   const counts = countsOf(replayOf(branching(), 'the replay'), null, 'the replay', still);
   const [inner, outer] = [2 ** DEPTH - 1, 2 ** DEPTH];
@@ -63,13 +70,13 @@ function manyPaths() {
   return found.join() === expected.join() ? null : `${found.join()}, and not ${expected.join()}`;
 }
 
+/** The two functions as an original has them, with a section of names. */
+const original = names => flat([moduleBytes(branchingParts()), section(0, nameSection(names))]);
+
 /** Names are those of the section `name`, and equal names get numbers. */
 function named() {
   const replay = replayOf(branching(), 'the replay');
-  const original = (module, names) => flat([MAGIC, module.subarray(8), section(0, nameSection(names))]);
-  const withNames = names => replayOf(original(branching(), names), 'the original').module;
-  const bodies = { ...withNames([]), bodies: replay.module.bodies.slice(0, 2), functions: replay.module.functions.slice(0, 2) };
-  const names = list => namesOf({ ...bodies, names: new Map(list) }, replay, 'the original').join();
+  const names = list => namesOf(readModule(original(list)), replay, 'the original').join();
   const found = [names([[1, 'left']]), names([[0, 'f'], [1, 'f']]), names([])];
   const expected = ['func 0,left', 'f (func 0),f (func 1)', 'func 0,func 1'];
   return found.join('; ') === expected.join('; ') ? null : found.join('; ');

@@ -1,6 +1,6 @@
 /**
- * The numbers of `profile` are those of r3: turns by function are the lines of a history, and all turns of a module and a
- * script are the least budget of `make`.
+ * The numbers of `profile` are those of r3: turns by function and by path are the lines of a history, and all turns of
+ * a module and a script are the least budget of `make`.
  */
 import fs from 'node:fs';
 import path from 'node:path';
@@ -98,7 +98,7 @@ function budgetFault(runner, files, turns) {
   return turns > 1 && make(turns - 1) !== BUDGET_SPENT ? `${turns - 1} turns are enough` : null;
 }
 
-/** A number of turns of the file of a module and a script. A run of no turns needs a budget of one. */
+/** What of the profile of a module and a script differs from what r3 says of them, or null. */
 function runFault(runner, files, history) {
   const [module, script] = files.map(file => fs.readFileSync(file));
   const made = runner.run(runner.program, ['make', ...files, BUDGET]);
@@ -127,8 +127,8 @@ function otherFiles(name) {
 
 /** Each example with a history, against that. */
 export function exampleCases(runner) {
-  const names = fs.readdirSync(examples).filter(file => file.endsWith(ENDING)).map(file => file.slice(0, -ENDING.length));
-  return names.map(name => [name, () => {
+  const files = fs.readdirSync(examples).filter(file => file.endsWith(ENDING));
+  return files.map(file => file.slice(0, -ENDING.length)).map(name => [name, () => {
     const history = fs.readFileSync(path.join(examples, name + ENDING), 'utf8');
     const words = otherFiles(name);
     if (words === null) return runFault(runner, [moduleFile(name), path.join(examples, `${name}.json`)], history);
@@ -137,13 +137,14 @@ export function exampleCases(runner) {
   }]);
 }
 
-/** Each program of bench/: its turns in programs.json, which bench/run compares with the least budget, and its weight. */
+/** Each program of bench/: its turns in programs.json, which `bench/run` compares with the budget, and its weight. */
 export function benchCases() {
   const folder = path.join(root, 'bench');
   const programs = JSON.parse(fs.readFileSync(path.join(folder, 'programs.json'), 'utf8'));
   const readme = fs.readFileSync(path.join(folder, 'README.md'), 'utf8');
   return programs.map(({ name, turns }) => [name, () => {
-    const [replay, module, script] = ['replay.wasm', 'wasm', 'json'].map(ending => fs.readFileSync(path.join(folder, `${name}.${ending}`)));
+    const [replay, module, script] = ['replay.wasm', 'wasm', 'json']
+      .map(ending => fs.readFileSync(path.join(folder, `${name}.${ending}`)));
     const { counts } = counted(replay, module, script.toString());
     const row = readme.split('\n').find(line => line.startsWith(`| \`${name}\` | `) && line.split('|').length > 10);
     const cells = row.split('|').map(cell => cell.trim());

@@ -18,8 +18,8 @@ user_pref("toolkit.startup.max_resumed_crashes", -1);
 /** The browsers, with their words for a folder of their own and an address. */
 const BROWSERS = [
   { names: ['chromium', 'chromium-browser', 'google-chrome'],
-    words: (folder, address) => ['--headless', '--no-sandbox', '--disable-gpu', '--disable-dev-shm-usage', '--no-first-run',
-      '--enable-logging=stderr', `--user-data-dir=${folder}`, address],
+    words: (folder, address) => ['--headless', '--no-sandbox', '--disable-gpu', '--disable-dev-shm-usage',
+      '--no-first-run', '--enable-logging=stderr', `--user-data-dir=${folder}`, address],
     complaint: /:CONSOLE[(:].*/ },
   { names: ['firefox-esr', 'firefox'],
     words: (folder, address) => ['--headless', '--no-remote', '--profile', folder, address],
@@ -41,7 +41,10 @@ function usePage() {
   const faults = [];
   const expect = (isWell, text) => { if (!isWell) faults.push(text); };
   const all = selector => [...document.querySelectorAll(selector)];
-  const key = (target, name) => target.dispatchEvent(new KeyboardEvent('keydown', { key: name, bubbles: true, cancelable: true }));
+  const text = id => document.getElementById(id).textContent;
+  const key = (target, name) => {
+    target.dispatchEvent(new KeyboardEvent('keydown', { key: name, bubbles: true, cancelable: true }));
+  };
   const wide = frame => frame.getBoundingClientRect().width;
   const box = document.getElementById('flame');
   const deep = () => all('.frame').filter(frame => Number(frame.getAttribute('aria-level')) === 3);
@@ -54,7 +57,7 @@ function usePage() {
   expect(wide(zoomed) > 0.97 * box.clientWidth, 'a click on a frame makes it as wide as the graph');
   expect(all('.frame.above').length === 2, 'two frames are above one of the third row');
   expect(document.activeElement === zoomed, 'the frame has the focus');
-  expect(/[\d,]+ turns? \(\d+\.\d %\)/.test(document.getElementById('frame-detail').textContent), 'the frame\'s turns are printed');
+  expect(/[\d,]+ turns? \(\d+\.\d %\)/.test(text('frame-detail')), 'the turns of the frame are printed');
   key(zoomed, 'Escape');
   expect(all('.frame.above').length === 0, 'Escape shows the whole run');
   key(document.activeElement, 'ArrowDown');
@@ -71,7 +74,7 @@ function usePage() {
   search.dispatchEvent(new Event('input'));
   expect(all('.frame.found').length === 0, 'a search finds nothing else');
 
-  const range = () => document.getElementById('line-range').textContent;
+  const range = () => text('line-range');
   const whole = range();
   document.getElementById('line-in').click();
   expect(range() !== whole, 'the time line zooms');
@@ -79,20 +82,20 @@ function usePage() {
   key(canvas, '0');
   expect(range() === whole, 'a key shows the whole time line');
   key(canvas, 'ArrowDown');
-  expect(/ calls .*: [\d,]+ turns?, /.test(document.getElementById('line-detail').textContent), 'a key selects a call');
+  expect(/ calls .*: [\d,]+ turns?, /.test(text('line-detail')), 'a key selects a call');
 
   for (const id of ['functions-table', 'imports-table']) {
     const cells = () => all(`#${id} tbody td:first-child`).map(cell => cell.textContent);
-    const before = cells().join();
+    const names = cells().sort((one, other) => one.localeCompare(other));
     document.querySelector(`#${id} th button`).click();
-    const sorted = cells();
-    expect(sorted.join() === [...sorted].sort((one, other) => one.localeCompare(other)).join(), `${id} is sorted by names`);
-    document.querySelector(`#${id} th:nth-child(3) button`).click();
-    expect(cells().length === before.split(',').length || cells().length > 0, `${id} keeps its rows`);
-    expect(document.querySelector(`#${id} th:nth-child(3)`).getAttribute('aria-sort') === 'descending', `${id} says how it is sorted`);
+    expect(names.length > 0 && cells().join() === names.join(), `${id} is sorted by names`);
+    const third = document.querySelector(`#${id} th:nth-child(3)`);
+    third.querySelector('button').click();
+    expect(third.getAttribute('aria-sort') === 'descending', `${id} says how it is sorted`);
+    expect(cells().sort((one, other) => one.localeCompare(other)).join() === names.join(), `${id} keeps its rows`);
   }
   expect(all('#memory-map .page').length > 0, 'the memory has pages');
-  expect(all('#memory-map i.l1, #memory-map i.l2, #memory-map i.l3, #memory-map i.l4').length > 0, 'a part of a page has bytes');
+  expect(all('#memory-map i:not(.l0)').length > 0, 'a part of a page has bytes');
   faults.push(...window.errors.map(text => `an error on the console: ${text}`));
   location.replace(`/done?${encodeURIComponent(JSON.stringify(faults))}`);
 }
@@ -106,7 +109,8 @@ function pageInUse(page) {
 }
 
 /** The file of a command that is installed. */
-const found = names => names.map(name => spawnSync('sh', ['-c', `command -v ${name}`]).stdout.toString().trim()).find(file => file !== '');
+const fileOf = name => spawnSync('sh', ['-c', `command -v ${name}`]).stdout.toString().trim();
+const found = names => names.map(fileOf).find(file => file !== '');
 
 /** Serves the page, and resolves to the faults that it reports. */
 function served(page) {
@@ -115,7 +119,8 @@ function served(page) {
   const server = http.createServer((request, response) => {
     const { pathname, search } = new URL(request.url, 'http://127.0.0.1');
     if (pathname === '/done') resolve(JSON.parse(decodeURIComponent(search.slice(1))));
-    response.writeHead(pathname === '/' || pathname === '/done' ? 200 : 404, { 'Content-Type': 'text/html; charset=utf-8' });
+    const isThere = pathname === '/' || pathname === '/done';
+    response.writeHead(isThere ? 200 : 404, { 'Content-Type': 'text/html; charset=utf-8' });
     response.end(pathname === '/' ? page : '');
   });
   return new Promise(ready => server.listen(0, '127.0.0.1', () => ready({ server, faults })));
@@ -128,12 +133,15 @@ async function faultsIn(file, browser, page, folder) {
   const { server, faults } = await served(page);
   const address = `http://127.0.0.1:${server.address().port}/`;
   const environment = { ...process.env, HOME: folder, MOZ_CRASHREPORTER_DISABLE: '1' };
-  const child = spawn(file, browser.words(folder, address), { env: environment, detached: true, stdio: ['ignore', 'pipe', 'pipe'] });
+  const settings = { env: environment, detached: true, stdio: ['ignore', 'pipe', 'pipe'] };
+  const child = spawn(file, browser.words(folder, address), settings);
   let printed = '';
   child.stdout.on('data', piece => { printed += piece; });
   child.stderr.on('data', piece => { printed += piece; });
   const timer = {};
-  const late = new Promise(resolve => { timer.id = setTimeout(() => resolve([`no answer after ${SECONDS} seconds`]), SECONDS * 1000); });
+  const late = new Promise(resolve => {
+    timer.id = setTimeout(() => resolve([`no answer after ${SECONDS} seconds`]), SECONDS * 1000);
+  });
   const failed = new Promise(resolve => child.on('error', error => resolve([String(error)])));
   const result = await Promise.race([faults, late, failed]);
   clearTimeout(timer.id);

@@ -51,18 +51,19 @@ function trace(runner) {
 function json(runner) {
   const found = JSON.parse(printed(runner, ['--json', ...MATCHER]));
   const sum = (list, key) => list.reduce((all, item) => all + item[key], 0);
-  const numbers = [found.turns, sum(found.paths, 'self'), found.instructions + found.actions, sum(found.functions, 'self')
-    + found.actions, sum(found.imports, 'calls'), sum([found.host, ...found.imports], 'weight'), found.weight,
-    sum(found.memory.pages, 'bytes')];
-  const expected = [...new Array(4).fill(MATCHER_TURNS), 829, 7737, 7737, sum([found.host, ...found.imports], 'bytes')];
+  const hosts = [found.host, ...found.imports];
+  const turns = [found.turns, sum(found.paths, 'self'), found.instructions + found.actions,
+    sum(found.functions, 'self') + found.actions];
+  const weights = [found.weight, sum(hosts, 'weight'), sum(found.memory.pages, 'bytes')];
+  const numbers = [...turns, ...weights, sum(found.imports, 'calls')];
+  const expected = [...turns.map(() => MATCHER_TURNS), 7737, 7737, sum(hosts, 'bytes'), 829];
   return numbers.join() === expected.join() ? null : `${numbers.join()}, and not ${expected.join()}`;
 }
 
 /** Of a replay module alone the turns are instructions and calls by the host, and the table says so. */
 function replayAlone(runner) {
   const lines = printed(runner, [bench('matcher.replay.wasm')]).split('\n');
-  const [, instructions, calls] = /: ([\d,]+) instructions and ([\d,]+) calls by the host; the run ended$/.exec(lines[0]) ?? [];
-  if (calls !== '441' || instructions !== '4,855,308') return lines[0];
+  if (!lines[0].endsWith(': 4,855,308 instructions and 441 calls by the host; the run ended')) return lines[0];
   return lines[1] === 'other actions of the host are not counted: a replay module does not have them' ? null : lines[1];
 }
 
@@ -84,25 +85,34 @@ function failedOutputs(runner) {
   fs.closeSync(full);
   if (status !== 1 || !/^profile: the output: .*\n$/.test(errors)) return `status ${status}: ${errors}`;
   const missing = profile(runner, ['--html', path.join(runner.folder, 'no such folder', 'x.html'), ...MATCHER]);
-  return missing.status === 1 && /^profile: .*\n$/.test(missing.errors) ? null : `status ${missing.status}: ${missing.errors}`;
+  const isRefused = missing.status === 1 && /^profile: .*\n$/.test(missing.errors);
+  return isRefused ? null : `status ${missing.status}: ${missing.errors}`;
 }
+
+const NOT_ITS_WORDS = 'these are not its words: ./r3 profile --help lists them';
+
+/** A module of two functions with a layout, whose functions are not those of a replay module. */
+const withLayout = () => Buffer.concat([fs.readFileSync(example('two_answers.wasm')),
+  Buffer.from([0, 12, 9, ...Buffer.from('r3.layout'), 1, 1])]);
 
 /** Rows of words, a status, and the line. */
 const rows = runner => [
-  ['no words', [], 2, 'these are not its words: ./r3 profile --help lists them'],
-  ['three files', ['a', 'b', 'c'], 2, 'these are not its words: ./r3 profile --help lists them'],
-  ['an unknown word', ['--fast', 'a'], 2, 'these are not its words: ./r3 profile --help lists them'],
-  ['two formats', ['--json', '--trace', 'a'], 2, 'these are not its words: ./r3 profile --help lists them'],
-  ['a word without its file', ['a', '--html'], 2, 'these are not its words: ./r3 profile --help lists them'],
+  ['no words', [], 2, NOT_ITS_WORDS],
+  ['three files', ['a', 'b', 'c'], 2, NOT_ITS_WORDS],
+  ['an unknown word', ['--fast', 'a'], 2, NOT_ITS_WORDS],
+  ['two formats', ['--json', '--trace', 'a'], 2, NOT_ITS_WORDS],
+  ['a word without its file', ['a', '--html'], 2, NOT_ITS_WORDS],
   ['no such file', ['nothing.wasm'], 1, /^nothing\.wasm: ENOENT/],
   ['no module', [runner.file('wasm', 'no module')], 1, /: expected magic word/],
-  ['a module that is no replay', [example('two_answers.wasm')], 1, /: no replay module that r3 made: it has no section r3\.layout$/],
+  ['a module that is no replay', [example('two_answers.wasm')], 1,
+    /: no replay module that r3 made: it has no section r3\.layout$/],
   ['a replay that another tool made', [example('replay_two_answers.wasm')], 1, /: no replay module that r3 made: /],
-  ['a module with a layout that is no replay', [runner.file('wasm', Buffer.concat([fs.readFileSync(example('two_answers.wasm')),
-    Buffer.from([0, 12, 9, ...Buffer.from('r3.layout'), 1, 1])]))], 1, /: no replay module that r3 made: its functions are not/],
+  ['a module with a layout that is no replay', [runner.file('wasm', withLayout())], 1,
+    /: no replay module that r3 made: its functions are not those that r3 writes$/],
   ['a module that r3 refuses', [example('float_body.wasm'), example('float_body.json')], 1,
     /^r3 make: unsupported: function \d+ instruction \d+ float/],
-  ['a script with a fault', [example('two_answers.wasm'), runner.file('json', '{"jump":1}')], 1, 'r3 make: script: shape '],
+  ['a script with a fault', [example('two_answers.wasm'), runner.file('json', '{"jump":1}')], 1,
+    /^r3 make: script: shape/],
   ['names of another module', ['--names', bench('sort.wasm'), bench('matcher.replay.wasm')], 1,
     /: its functions are not those of the replay: it has 3 imported and 4 defined functions/],
 ];
@@ -110,8 +120,10 @@ const rows = runner => [
 const refused = (runner, words, status, line) => () => {
   const { status: found, output, errors } = profile(runner, words);
   const said = /^profile: (.*)\n$/.exec(errors)?.[1];
-  if (found !== status || output.length > 0 || said === undefined) return `status ${found}, ${output.length} bytes printed: ${errors}`;
-  return (line instanceof RegExp ? line.test(said) : line === said.padEnd(line.length)) ? null : `says ${JSON.stringify(said)}`;
+  if (found !== status || output.length > 0 || said === undefined) {
+    return `status ${found}, ${output.length} bytes printed: ${errors}`;
+  }
+  return (line instanceof RegExp ? line.test(said) : line === said) ? null : `says ${JSON.stringify(said)}`;
 };
 
 /** A module in which one constant of a function is another one. */
@@ -133,7 +145,8 @@ function otherConstant(file) {
 /** Names are refused if one function of the module is another one. */
 function otherFunction(runner) {
   const words = ['--names', runner.file('wasm', otherConstant(bench('matcher.wasm'))), bench('matcher.replay.wasm')];
-  const fault = refused(runner, words, 1, /: its functions are not those of the replay: function \d+ is another one$/)();
+  const line = /: its functions are not those of the replay: function \d+ is another one$/;
+  const fault = refused(runner, words, 1, line)();
   const same = printed(runner, ['--names', bench('matcher.wasm'), '--folded', bench('matcher.replay.wasm')]);
   return fault ?? (same.includes('env.test') ? null : 'no names');
 }

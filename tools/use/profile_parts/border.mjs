@@ -10,7 +10,7 @@ export const MOST_CALLS = 100000;
 const MUCH = 2000;
 
 /**
- * A call. `isImport` is true for a call of an import by the module, and false for one of a function by the host. `depth`
+ * A call. `isImport` is true where the module calls an import, and false where the host calls a function. `depth`
  * counts the calls that it is within.
  * @typedef {{ number: number, isImport: boolean, index: number, depth: number, begin: number, end: number }} BorderCall
  */

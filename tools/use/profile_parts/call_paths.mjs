@@ -34,6 +34,7 @@ const SLOTS = 1 << SLOT_BITS;
 /** Activations that may be open at once. Node.js has no room for more. */
 const MOST_DEPTH = 1 << 22;
 const PAGE = 65536;
+const SHARED_LIMITS = 3;
 
 /** Where the parts of the memory are, for a number of functions. */
 function places(functions) {
@@ -106,7 +107,8 @@ function nodesModule({ slots, pages }) {
     .map(([locals, code]) => [1, locals, I32, code, OP.end]);
   return moduleBytes({
     types,
-    imports: [importItem('js', 'create', KIND.function, 0), importItem('js', 'memory', KIND.memory, [3, u32(pages), u32(pages)])],
+    imports: [importItem('js', 'create', KIND.function, 0),
+      importItem('js', 'memory', KIND.memory, [SHARED_LIMITS, u32(pages), u32(pages)])],
     functions: [1, 1, 2, 3],
     globals: [[I32, 1, i32(0), OP.end]],
     exports: [exportItem('enter', KIND.function, FUNCTION.enter), exportItem('add', KIND.function, FUNCTION.add),
@@ -179,9 +181,9 @@ export class CallPaths {
     const numbers = new BigInt64Array(this.memory.buffer);
     /** @type {PathNode[]} */
     const nodes = [];
-    const at = (address, parent, func) => nodes.push({
-      parent, func, self: Number(numbers[(address + FIELD.self) >> 3]), calls: Number(numbers[(address + FIELD.calls) >> 3]),
-    });
+    const number = address => Number(numbers[address >> 3]);
+    const at = (address, parent, func) =>
+      nodes.push({ parent, func, self: number(address + FIELD.self), calls: number(address + FIELD.calls) });
     at(ROOT, -1, null);
     for (let count = 1; count < this.count; count++) {
       const address = ROOT + NODE_SIZE * count;

@@ -1,6 +1,6 @@
 /**
- * A function of the original that counts its turns. Instructions are counted by basic blocks, in a local, at the head of
- * each block; the local is written to the global `now` before a block that may trap or calls, so that the global is
+ * A function of the original that counts its turns. Instructions are counted by basic blocks, in a local at the head of
+ * each block. The local is written to the global `now` before a block that may trap or calls, so that the global is
  * right when the run traps or another function goes on. What a trap left undone of its block is taken off afterwards.
  */
 import { bodyOf, readInstruction, u32 } from '../wasm/index.mjs';
@@ -29,19 +29,16 @@ import { EMPTY, OP, call, get, globalGet, globalSet, i32, i64, set, tee } from '
 const I32_TYPE = 0x7f;
 const I64_TYPE = 0x7e;
 
-const DIVISIONS = new Set([OP.i32DivS, OP.i32DivU, OP.i32RemS, OP.i32RemU, OP.i64DivS, OP.i64DivU, OP.i64RemS, OP.i64RemU]);
-const FIRST_TRUNCATION = 0xa8;
-const LAST_TRUNCATION = 0xb1;
+/** Instructions that may trap, beside loads and stores. */
+const TRAPPING = new Set([OP.unreachable, OP.i32DivS, OP.i32DivU, OP.i32RemS, OP.i32RemU, OP.i64DivS, OP.i64DivU,
+  OP.i64RemS, OP.i64RemU, OP.memoryCopy, OP.memoryFill]);
 
-/** Whether an instruction may trap, or leads into another function. */
-function needsNow(op) {
-  return (op >= OP.firstLoad && op <= OP.lastStore) || op === OP.call || op === OP.callIndirect || DIVISIONS.has(op)
-    || op === OP.unreachable || op === OP.memoryCopy || op === OP.memoryFill
-    || ((op >= FIRST_TRUNCATION && op <= LAST_TRUNCATION && op !== 0xac && op !== 0xad));
-}
+const isCall = op => op === OP.call || op === OP.callIndirect;
+
+/** Whether an instruction may trap, or leads into another function. r3 takes no conversions that trap. */
+const needsNow = op => (op >= OP.firstLoad && op <= OP.lastStore) || isCall(op) || TRAPPING.has(op);
 
 const isBranch = op => op === OP.br || op === OP.brTable || op === OP.return || op === OP.unreachable;
-const isCall = op => op === OP.call || op === OP.callIndirect;
 const opensBlock = op => op === OP.block || op === OP.loop || op === OP.if;
 
 /**

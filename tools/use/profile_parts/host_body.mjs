@@ -51,8 +51,8 @@ const SIZES = new Set([OP.memorySize, OP.tableSize, OP.i32Sub, OP.drop]);
 const localGroups = locals => [u32(locals.length), locals.map(({ count, type }) => [u32(count), type])];
 
 /** The instructions of the function in an import's place, by their names. */
-const IMPORT_FORM = new RegExp(`^${['global.get', 'local.tee', 'i32.const', 'i32.add', 'global.set', '(block )+local.get',
-  'i32.const', 'i32.div_u', 'br_table', 'end', '(local.get call return end )*unreachable', 'end', '$'].join(' ')}`);
+const IMPORT_FORM = new RegExp(['^global.get local.tee i32.const i32.add global.set (block )+local.get i32.const',
+  'i32.div_u br_table end (local.get call return end )*unreachable end $'].join(' '));
 
 /** The function in an import's place: it leads to the functions that answer 256 calls each. */
 export class ImportBody {

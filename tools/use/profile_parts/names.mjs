@@ -47,7 +47,8 @@ class Comparison {
     if (listed(one.locals) !== listed(other.locals)) return false;
     while (!one.reader.isAtEnd && !other.reader.isAtEnd) {
       const [left, right] = [readInstruction(one.reader), readInstruction(other.reader)];
-      if (left.op !== right.op || !this.isSameIndex(left, right) || immediates(left) !== immediates(right)) return false;
+      if (left.op !== right.op || immediates(left) !== immediates(right)) return false;
+      if (!this.isSameIndex(left, right)) return false;
     }
     return one.reader.isAtEnd && other.reader.isAtEnd;
   }
@@ -57,8 +58,8 @@ class Comparison {
     const { original, replay } = this;
     const defined = original.bodies.length;
     if (this.between < 0 || defined !== replay.functions) {
-      return `it has ${original.importedFunctions} imported and ${defined} defined functions, and the replay's original `
-        + `${replay.imports} and ${replay.functions}`;
+      return `it has ${original.importedFunctions} imported and ${defined} defined functions, and the original of the `
+        + `replay has ${replay.imports} and ${replay.functions}`;
     }
     for (let index = 0; index < original.functions.length; index++) {
       const type = typeKey(replay.module.functions[this.number(index)]);
@@ -97,8 +98,8 @@ export function numberedNames({ imports, main }) {
 }
 
 /**
- * The names of a replay's functions: those of the section `name`, else `MODULE.NAME` for imports and `func N` for others,
- * where N is the number in the original.
+ * The names of a replay's functions: those of the section `name`, else `MODULE.NAME` for imports and `func N` for
+ * others, where N is the number in the original.
  * @param {Module} original
  * @param {Replay} replay
  * @param {string} what how a line names the original
@@ -108,7 +109,9 @@ export function namesOf(original, replay, what) {
   const difference = comparison.difference();
   if (difference !== null) refuse(`${what}: its functions are not those of the replay: ${difference}`);
   const names = numberedNames(replay);
-  for (let place = 0; place < comparison.between; place++) names[original.importedFunctions + place] = `declared ${place}`;
+  for (let place = 0; place < comparison.between; place++) {
+    names[original.importedFunctions + place] = `declared ${place}`;
+  }
   original.functions.forEach((_, index) => { names[comparison.number(index)] = `func ${index}`; });
   for (const { kind, index, module, name } of original.imports) {
     if (kind === KIND.function) names[index] = `${module}.${name}`;

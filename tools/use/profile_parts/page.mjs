@@ -50,6 +50,7 @@ export function* page(report, names) {
   const called = functions.filter(({ calls }) => calls > 0);
   const data = { file, turns, names, functions: called, imports: [host, ...imports], memory, paths: widePaths(report),
     line: lineOf(report), sentences: sentences(report) };
-  const filled = { TITLE: escaped(file), STYLE: part('page.css'), DATA: embedded(data), SCRIPT: SCRIPTS.map(part).join('\n') };
+  const scripts = SCRIPTS.map(part).join('\n');
+  const filled = { TITLE: escaped(file), STYLE: part('page.css'), DATA: embedded(data), SCRIPT: scripts };
   yield part('page.html').replace(/\{\{(\w+)\}\}/g, (_, name) => filled[name]);
 }

@@ -50,7 +50,7 @@ function compiled(bytes) {
   try {
     return new WebAssembly.Module(bytes);
   } catch (error) {
-    return refuse(`the engine refuses the module that counts: ${error.message.replace(/^WebAssembly\.Module\(\): /, '')}`);
+    return refuse(`the engine refuses the module that counts: ${error.message}`);
   }
 }
 

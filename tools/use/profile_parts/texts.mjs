@@ -19,7 +19,8 @@ function columns(rows) {
 
 /** @param {Report} report */
 function functionRows({ functions, turns }) {
-  const called = functions.filter(({ calls }) => calls > 0).sort((one, other) => other.self - one.self || one.index - other.index);
+  const called = functions.filter(({ calls }) => calls > 0);
+  called.sort((one, other) => other.self - one.self || one.index - other.index);
   const rows = called.slice(0, MOST_ROWS).map(({ self, all, calls, name }) =>
     [grouped(self), share(self, turns), grouped(all), share(all, turns), grouped(calls), name]);
   const left = called.length - rows.length;
@@ -29,27 +30,30 @@ function functionRows({ functions, turns }) {
 
 /** @param {Report} report */
 function importRows({ imports, host }) {
-  const rows = [host, ...imports.filter(({ calls }) => calls > 0)].map(item => [
-    item.index === null ? '' : grouped(item.calls), grouped(item.turns), grouped(item.weight), grouped(item.bytes),
-    grouped(item.entries), grouped(item.globals), grouped(item.growths), grouped(item.arguments_), grouped(item.results),
-    item.name]);
-  return columns([['calls', 'actions', 'weight', 'bytes', 'entries', 'globals', 'growths', 'arguments', 'results', 'import'],
-    ...rows]);
+  const heads = 'calls actions weight bytes entries globals growths arguments results import'.split(' ');
+  const rows = [host, ...imports.filter(({ calls }) => calls > 0)].map(item => {
+    const { turns, weight, bytes, entries, globals, growths, arguments_, results } = item;
+    const numbers = [turns, weight, bytes, entries, globals, growths, arguments_, results].map(grouped);
+    return [item.index === null ? '' : grouped(item.calls), ...numbers, item.name];
+  });
+  return columns([heads, ...rows]);
 }
 
 /** The sentences about the whole run. @param {Report} report */
 export function sentences(report) {
   const { border, memory, line } = report;
-  const read = memory.pages.reduce((sum, { bytes }) => sum + bytes, 0);
+  const read = counted(memory.pages.reduce((sum, { bytes }) => sum + bytes, 0), 'byte');
+  const host = report.hasScript ? `${counted(report.actions, 'action')} of the host`
+    : `${counted(report.actions, 'call')} by the host`;
+  const returns = (calls, returned) => `${grouped(calls)}, of which ${grouped(returned)} return`;
   return [
-    `${counted(report.turns, 'turn')}: ${counted(report.instructions, 'instruction')} and ${report.hasScript
-      ? counted(report.actions, 'action') + ' of the host' : counted(report.actions, 'call') + ' by the host'}; ${
-      OUTCOMES[report.outcome]}`,
+    `${counted(report.turns, 'turn')}: ${counted(report.instructions, 'instruction')} and ${host}; `
+      + OUTCOMES[report.outcome],
     ...(report.hasScript ? [] : ['other actions of the host are not counted: a replay module does not have them']),
-    `calls by the host: ${grouped(border.hostCalls)}, of which ${grouped(border.hostReturns)} return; calls of imports: ${
-      grouped(border.importCalls)}, of which ${grouped(border.importReturns)} return`,
-    `the replay's tape weighs ${counted(report.weight, 'unit')}; the run reads ${counted(read, 'byte')} that the host writes, in `
-      + `${counted(memory.pages.length, 'page')} of the memory`,
+    `calls by the host: ${returns(border.hostCalls, border.hostReturns)}; `
+      + `calls of imports: ${returns(border.importCalls, border.importReturns)}`,
+    `the replay's tape weighs ${counted(report.weight, 'unit')}; the run reads ${read} that the host writes, `
+      + `in ${counted(memory.pages.length, 'page')} of the memory`,
     ...(report.arePathsShortened ? ['there are too many call paths: further ones are put together by functions'] : []),
     ...(line.isThinned ? [`the time line has ${grouped(line.calls.length)} of ${counted(line.all, 'call')}`] : []),
   ];
@@ -77,15 +81,18 @@ export function* folded({ paths }) {
 /** @param {Report} report @param {string[]} names */
 export function* trace(report, names) {
   const { line, turns, file } = report;
-  const about = (name, text) => ({ name, ph: 'M', pid: 1, tid: 1, args: { name: text } });
+  const place = { pid: 1, tid: 1 };
+  const about = (name, text) => ({ name, ph: 'M', ...place, args: { name: text } });
   const thinned = line.isThinned ? `, ${line.calls.length} of ${line.all} calls` : '';
-  yield `{"displayTimeUnit":"ms","otherData":${JSON.stringify({ file, turns, unit: 'a microsecond is a turn' })},"traceEvents":[\n`;
+  const other = JSON.stringify({ file, turns, unit: 'a microsecond is a turn' });
+  yield `{"displayTimeUnit":"ms","otherData":${other},"traceEvents":[\n`;
   yield `${JSON.stringify(about('process_name', `${file} (a microsecond is a turn${thinned})`))},\n`;
   yield `${JSON.stringify(about('thread_name', 'host and module'))},\n`;
-  yield JSON.stringify({ name: 'host', cat: 'host', ph: 'X', ts: 0, dur: turns, pid: 1, tid: 1 });
+  yield JSON.stringify({ name: 'host', cat: 'host', ph: 'X', ts: 0, dur: turns, ...place });
   for (const { isImport, index, begin, end, number } of line.calls) {
     const cat = isImport ? 'call of an import' : 'call by the host';
-    yield `,\n${JSON.stringify({ name: names[index], cat, ph: 'X', ts: begin, dur: end - begin, pid: 1, tid: 1, args: { number } })}`;
+    const event = { name: names[index], cat, ph: 'X', ts: begin, dur: end - begin, ...place, args: { number } };
+    yield `,\n${JSON.stringify(event)}`;
   }
   yield '\n]}\n';
 }

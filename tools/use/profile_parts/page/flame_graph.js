@@ -79,7 +79,8 @@ class FlameGraph {
     const func = this.paths.func[index];
     const frame = element('div', { className: 'frame', title: this.text(index), tabIndex: -1 });
     if (width > 24) frame.textContent = this.name(index);
-    frame.style.cssText = `left:${left}px;top:${depth * ROW}px;width:${Math.max(1, width - 1)}px;--hue:${hueOf(func ?? 0)}`;
+    const place = `left:${left}px;top:${depth * ROW}px;width:${Math.max(1, width - 1)}px`;
+    frame.style.cssText = `${place};--hue:${hueOf(func ?? 0)}`;
     frame.setAttribute('role', 'treeitem');
     frame.setAttribute('aria-label', this.text(index));
     frame.setAttribute('aria-level', String(depth + 1));

@@ -24,15 +24,16 @@ class MemoryMap {
   help() {
     const count = this.pages.reduce((sum, page) => sum + page.bytes, 0);
     byId('memory-help').textContent = count === 0 ? 'The run reads no byte that the host writes.'
-      : `${bytes(count)} in ${unit(this.pages.length, 'page')}. A block is a page of ${bytes(this.pageBytes)}, a square of it `
-        + `${bytes(this.partBytes)}; the darker (in dark the lighter), the more of them the host wrote and the run read. `
+      : `${bytes(count)} in ${unit(this.pages.length, 'page')}. A block is a page of ${bytes(this.pageBytes)}, and a `
+        + `square of it ${bytes(this.partBytes)}. A stronger color is more bytes that the host wrote and the run read. `
         + 'Bytes that are written again count again. Arrow keys go from page to page.';
   }
 
   /** Pages without such bytes: a few are drawn, many are named. */
   empty(from, to) {
     if (to - from > MOST_EMPTY) {
-      this.box.append(element('span', { className: 'gap', textContent: `pages ${grouped(from)} to ${grouped(to - 1)}: none` }));
+      const text = `pages ${grouped(from)} to ${grouped(to - 1)}: none`;
+      this.box.append(element('span', { className: 'gap', textContent: text }));
       return;
     }
     for (let page = from; page < to; page++) {
@@ -46,7 +47,8 @@ class MemoryMap {
 
   page({ page, bytes: count, parts }) {
     const squares = parts.map(its => element('i', { className: `l${this.level(its)}` }));
-    const made = element('div', { className: 'page', tabIndex: -1 }, [...squares, element('span', { textContent: grouped(page) })]);
+    const number = element('span', { textContent: grouped(page) });
+    const made = element('div', { className: 'page', tabIndex: -1 }, [...squares, number]);
     const filled = parts.filter(its => its > 0).length;
     const text = `Page ${grouped(page)}, addresses ${grouped(page * this.pageBytes)} to `
       + `${grouped((page + 1) * this.pageBytes - 1)}: ${bytes(count)}, in ${filled} of ${parts.length} parts`;

@@ -34,12 +34,14 @@ class SortedTable {
     this.heads.forEach((head, index) => {
       const direction = index !== this.column ? 'none' : this.isDown ? 'descending' : 'ascending';
       head.setAttribute('aria-sort', direction);
-      head.firstChild.textContent = this.columns[index].title + { none: '', descending: ' ▼', ascending: ' ▲' }[direction];
+      const mark = { none: '', descending: ' ▼', ascending: ' ▲' }[direction];
+      head.firstChild.textContent = this.columns[index].title + mark;
     });
     this.body.replaceChildren(...sorted.slice(0, MOST_TABLE_ROWS).map(row => this.row(row)));
     if (sorted.length > MOST_TABLE_ROWS) {
-      const left = unit(sorted.length - MOST_TABLE_ROWS, 'further row');
-      this.body.append(element('tr', {}, [element('td', { textContent: left, colSpan: this.columns.length, className: 'text' })]));
+      const textContent = unit(sorted.length - MOST_TABLE_ROWS, 'further row');
+      const cell = element('td', { textContent, colSpan: this.columns.length, className: 'text' });
+      this.body.append(element('tr', {}, [cell]));
     }
   }
 

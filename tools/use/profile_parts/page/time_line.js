@@ -39,7 +39,8 @@ class TimeLine {
     const context = this.canvas.getContext('2d');
     context.scale(ratio, ratio);
     const style = getComputedStyle(document.documentElement);
-    this.colors = Object.fromEntries(['module', 'host', 'text', 'edge', 'bar-text'].map(name => [name, style.getPropertyValue(`--${name}`)]));
+    const colorOf = name => [name, style.getPropertyValue(`--${name}`)];
+    this.colors = Object.fromEntries(['module', 'host', 'text', 'edge', 'bar-text'].map(colorOf));
     context.font = '11px system-ui, "Liberation Sans", "DejaVu Sans", sans-serif';
     this.drawAxis(context, height);
     this.drawBar(context, 0, this.turns, 0, this.colors.host, 'host');
@@ -93,7 +94,8 @@ class TimeLine {
     const [left, right] = [line.begin[this.selected], line.end[this.selected]].map(turn => this.place(turn));
     context.strokeStyle = this.colors.text;
     context.lineWidth = 2;
-    context.strokeRect(left, AXIS + (line.depth[this.selected] + 1) * LINE_ROW + 1, Math.max(2, right - left), LINE_ROW - 3);
+    const top = AXIS + (line.depth[this.selected] + 1) * LINE_ROW + 1;
+    context.strokeRect(left, top, Math.max(2, right - left), LINE_ROW - 3);
   }
 
   /** The call at a point: the last one that is there, or within two points of it. */
