@@ -23,8 +23,13 @@ def run(group, script, oldest, tool):
         group.notes.append(f"Node.js {oldest} is not here: {tool} is not checked")
         return
     ran = subprocess.run(
-        [node, os.path.join(HERE, script), group.program], cwd=group.room, stdin=subprocess.DEVNULL,
-        stdout=subprocess.PIPE, stderr=subprocess.STDOUT, timeout=CALLS * LIMIT, check=False,
+        [node, os.path.join(HERE, script), group.program],
+        cwd=group.room,
+        stdin=subprocess.DEVNULL,
+        stdout=subprocess.PIPE,
+        stderr=subprocess.STDOUT,
+        timeout=CALLS * LIMIT,
+        check=False,
     )
     lines = ran.stdout.decode(errors="backslashreplace").splitlines()
     total = re.fullmatch(r"(\d+) passed, (\d+) failed", lines[-1] if lines else "")
@@ -32,7 +37,7 @@ def run(group, script, oldest, tool):
         group.faults.append(f"the tests ended with status {ran.returncode}: {lines[-1:]}")
         return
     group.passed += int(total.group(1))
-    group.notes += [line[len("note: "):] for line in lines if line.startswith("note: ")]
+    group.notes += [line[len("note: ") :] for line in lines if line.startswith("note: ")]
     group.faults += [line.strip() for line in lines[:-1] if line.startswith("  ")]
     is_well = ran.returncode == 0 and int(total.group(1)) > 0
     group.expect(is_well, f"the tests end with status 0, and not {ran.returncode}")
