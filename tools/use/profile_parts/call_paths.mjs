@@ -160,6 +160,11 @@ export class CallPaths {
     return this.counting.shared.value !== 0;
   }
 
+  /** The function of the node at an address. */
+  functionOf(node) {
+    return this.words[(node + FIELD.key) >> 2] - 1;
+  }
+
   /**
    * Counts the activations that a trap left open. `node` is the one that control was in, `top` where the list of open
    * activations ends, `open` the innermost activation if it has called nothing.

@@ -23,6 +23,12 @@ import { refuse } from './refusal.mjs';
 /** How V8 names a place in a module, in a line of a stack. */
 const PLACE = /wasm-function\[(\d+)\]:0x([0-9a-f]+)/g;
 
+/**
+ * The most places of a stack that the engine keeps. It takes a minute to keep the millions that a stack has which
+ * overflows.
+ */
+const MOST_PLACES = 100000;
+
 /** Where the run trapped, in the counted module, and the functions of the activations that were open then. */
 function trapOf(error) {
   const places = [...error.stack.matchAll(PLACE)];
@@ -32,7 +38,7 @@ function trapOf(error) {
 
 /** Runs to the end, and gives the error that ended the run, or null. */
 function errorOf(start) {
-  Error.stackTraceLimit = Infinity;
+  Error.stackTraceLimit = MOST_PLACES;
   try {
     start();
     return null;
@@ -74,7 +80,7 @@ export function countsOf(replay, actions, what, progress) {
   progress.watch(paths.memory);
   const error = errorOf(exports._start);
   progress.done();
-  const end = endOf(error, counted, bytes, exports);
+  const end = endOf(error, counted, bytes, paths, exports);
   exports.flush();
   paths.finish(end.now, exports.node.value, exports.top.value, end.open);
   border.finish(Number(end.now));
@@ -83,16 +89,24 @@ export function countsOf(replay, actions, what, progress) {
     weights: counted.weights };
 }
 
+/**
+ * Whether the innermost activation has called a function, and so has a node: then the stack has as many activations as
+ * have nodes, and not one more. Of a deeper stack the function of the last node decides: turns by function are right.
+ */
+function hasNode(functions, counted, paths, exports) {
+  if (functions.length === MOST_PLACES) return paths.functionOf(exports.node.value) === functions[0];
+  const activations = functions.filter(index => index < counted.replay.main).length;
+  return activations * OPEN_SIZE === exports.top.value - counted.top;
+}
+
 /** How a run ended: `now` are its turns, `open` is the innermost activation if it has called nothing. */
-function endOf(error, counted, bytes, exports) {
+function endOf(error, counted, bytes, paths, exports) {
   const now = exports.now.value;
   if (error === null) return { outcome: /** @type {const} */ ('ended'), now, open: null };
   const { imports, main } = counted.replay;
   const { at, functions } = trapOf(error);
   const [func] = functions;
   if (func < imports || func >= main) return { outcome: /** @type {const} */ ('host-trapped'), now, open: null };
-  const activations = functions.filter(index => index < main).length;
-  const hasNode = activations * OPEN_SIZE === exports.top.value - counted.top;
-  const open = hasNode ? null : { func, begin: exports.begin.value };
+  const open = hasNode(functions, counted, paths, exports) ? null : { func, begin: exports.begin.value };
   return { outcome: /** @type {const} */ ('trapped'), now: now - BigInt(counted.undone(bytes, func, at)), open };
 }
