@@ -57,7 +57,7 @@ function elementSegment({ table, offset, functions, isDeclared }) {
 function placesOf({ module, imports }) {
   const now = module.globals.length;
   const imported = Object.fromEntries(IMPORTED.map(([name], index) => [name, index]));
-  return { now, begin: now + 1, node: now + 2, top: now + 3, counts: now + 4, imports, shift: SHIFT, ...imported };
+  return { now, begin: now + 1, node: now + 2, top: now + 3, counts: now + 4, imports, shift: SHIFT, pieces: new Map(), ...imported };
 }
 
 export class CountedModule {
@@ -71,7 +71,7 @@ export class CountedModule {
     Object.assign(this, { replay, actions, what, top });
     this.places = placesOf(replay);
     this.weights = new HostWeights(replay.imports);
-    /** Parts of bodies by the functions' numbers. @type {Part[][]} */
+    /** The bodies by the functions' numbers, without their sizes. @type {Uint8Array[]} */
     this.bodies = new Array(replay.module.bodies.length);
   }
 
@@ -89,12 +89,12 @@ export class CountedModule {
   addBodies() {
     const { module, imports, functions, main } = this.replay;
     for (let index = 0; index < functions; index++) {
-      this.bodies[imports + index] = countedBody(module, imports + index, this.places);
+      this.bodies[imports + index] = flat(countedBody(module, imports + index, this.places));
     }
     this.addAnswers(main, null, () => this.actions?.main() ?? null, null);
     for (let index = 0; index < imports; index++) {
       const answering = new ImportBody(module, index, this.places);
-      this.bodies[index] = answering.body();
+      this.bodies[index] = flat(answering.body());
       const actions = call => this.actions?.answer(index, call) ?? null;
       answering.groups.forEach((group, place) => this.addAnswers(group, index, actions, place << 8));
     }
@@ -105,7 +105,7 @@ export class CountedModule {
     if (index < this.replay.main || this.bodies[index] !== undefined) throw new ForeignCode();
     const owner = { import_, actions };
     const body = new AnswerBody(this.replay.module, index, this.places, this.weights, owner, firstCall);
-    this.bodies[index] = body.body();
+    this.bodies[index] = flat(body.body());
   }
 
   globals() {

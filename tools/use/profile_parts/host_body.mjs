@@ -3,7 +3,7 @@
  * what they do is weighed, and they are written again with calls that report when control crosses the border between
  * host and module, and with the host's turns.
  */
-import { I32, I64, bodyOf, instructionName, readInstruction, u32 } from '../wasm/index.mjs';
+import { I32, I64, bodyOf, flat, instructionName, readInstruction, u32 } from '../wasm/index.mjs';
 import { OPEN_SIZE } from './call_paths.mjs';
 import { OP, call, get, globalGet, globalSet, i32, i64, tee } from './code.mjs';
 
@@ -37,6 +37,7 @@ const SIZES = new Set([OP.memorySize, OP.tableSize, OP.i32Sub, OP.drop]);
  * @property {number} hostCall
  * @property {number} hostReturn
  * @property {number} shift by how much the numbers of functions are greater
+ * @property {Map<string, Uint8Array>} pieces bytes that are inserted many times
  */
 
 /**
@@ -111,6 +112,13 @@ export class ImportBody {
 /** The time of the border's line, as a number that JavaScript takes. */
 const time = places => [globalGet(places.now), OP.f64ConvertI64S];
 
+/** The bytes of pieces that are inserted many times, by texts that say which. */
+function pieceOf(places, key, make) {
+  const found = places.pieces.get(key) ?? flat(make());
+  places.pieces.set(key, found);
+  return found;
+}
+
 /** A function that has the segments of calls, or of what the host does by itself. */
 export class AnswerBody {
   /**
@@ -126,7 +134,10 @@ export class AnswerBody {
     this.weight = weights.of(owner.import_);
     /** Constants that nothing has taken yet. @type {Instruction[]} */
     this.constants = [];
-    this.reader = bodyOf(module, index).reader;
+    Object.assign(this, bodyOf(module, index));
+    /** The body's bytes so far, and up to where they have those of the function. @type {Part[]} */
+    this.pieces = [];
+    this.kept = this.reader.at;
   }
 
   /** How many arms the function has, when its reader is at the first one: it begins with a block for each, and one. */
@@ -144,53 +155,67 @@ export class AnswerBody {
 
   /** @returns {Part[]} */
   body() {
-    const begin = this.reader.at;
+    const { reader, pieces } = this;
     const arms = this.firstCall === null ? 1 : this.readHead();
-    const { locals } = bodyOf(this.module, this.index);
-    const parts = [localGroups(locals), this.module.bytes.subarray(begin, this.reader.at)];
-    for (let arm = 0; arm < arms; arm++) parts.push(this.arm((this.firstCall ?? 0) + arm));
-    parts.push(this.module.bytes.subarray(this.reader.at, this.reader.end));
-    return parts;
+    for (let arm = 0; arm < arms; arm++) this.arm((this.firstCall ?? 0) + arm);
+    this.keep(reader.end);
+    return [localGroups(this.locals), pieces];
+  }
+
+  /** Takes the bytes over as they are, from where this was last done. */
+  keep(end) {
+    if (end > this.kept) this.pieces.push(this.module.bytes.subarray(this.kept, end));
+    this.kept = end;
   }
 
   /** One activation of the host: its segments up to the end of its block. */
   arm(number) {
     if (this.owner.import_ !== null) this.weight.calls++;
     const turns = this.owner.actions(number);
-    const parts = [];
     let [calls, last] = [0, OP.end];
     for (;;) {
       const begin = this.reader.at;
       const item = readInstruction(this.reader);
-      const same = this.module.bytes.subarray(begin, this.reader.at);
       const isOver = last === OP.return || last === OP.unreachable;
       if (isOver !== (item.op === OP.end)) throw new ForeignCode();
+      if (isOver) return;
       last = item.op;
-      if (isOver) return [parts, same];
-      if (item.op === OP.call) parts.push(this.hostCall(item.index, turns === null ? 1 : turns[calls++]));
-      else if (item.op === OP.refFunc) parts.push([OP.refFunc, u32(item.index + this.places.shift)]);
-      else if (item.op === OP.return || item.op === OP.unreachable) parts.push(this.lastTurns(turns, calls), same);
-      else parts.push(same);
+      if (item.op === OP.call) this.replace(begin, this.hostCall(item.index, turns === null ? 1 : turns[calls++]));
+      else if (item.op === OP.refFunc) this.replace(begin, [OP.refFunc, u32(item.index + this.places.shift)]);
+      else if (item.op === OP.return || item.op === OP.unreachable) this.insert(begin, this.lastTurns(turns, calls));
       this.weigh(item);
     }
   }
 
-  /** Adds turns to the global that counts them. */
-  addTurns(turns) {
-    const { now } = this.places;
-    return turns === 0 ? [] : [globalGet(now), i64(turns), OP.i64Add, globalSet(now)];
+  insert(begin, part) {
+    if (part === null) return;
+    this.keep(begin);
+    this.pieces.push(part);
   }
 
+  replace(begin, part) {
+    this.insert(begin, part);
+    this.kept = this.reader.at;
+  }
+
+  /** What adds turns to the global that counts them. */
+  addTurns(turns) {
+    const { now } = this.places;
+    return [globalGet(now), i64(turns), OP.i64Add, globalSet(now)];
+  }
+
+  /** A call of a function by the host. There are as many different ones as functions that are called so. */
   hostCall(index, turns) {
     if (turns === undefined) throw new Error(`function ${this.index} has more calls than the script`);
     const { shift, hostCall, hostReturn } = this.places;
-    return [this.addTurns(turns), i32(index), time(this.places), call(hostCall), call(index + shift),
-      time(this.places), call(hostReturn)];
+    return pieceOf(this.places, `${index} ${turns}`, () => [turns === 0 ? [] : this.addTurns(turns), i32(index),
+      time(this.places), call(hostCall), call(index + shift), time(this.places), call(hostReturn)]);
   }
 
   /** The turns behind the last call of the activation. If a call of it does not return, there are more calls. */
   lastTurns(turns, calls) {
-    return turns === null || calls < turns.length - 1 ? [] : this.addTurns(turns[calls]);
+    if (turns === null || calls < turns.length - 1 || turns[calls] === 0) return null;
+    return pieceOf(this.places, `${turns[calls]}`, () => this.addTurns(turns[calls]));
   }
 
   weigh(item) {

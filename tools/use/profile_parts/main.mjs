@@ -21,7 +21,7 @@ import { WordsFault, readWords, usage } from './words.mjs';
 const TURNS = '1000000000';
 
 /** Modules of at most so many bytes are compiled by the engine's second compiler at once. A long loop is not later. */
-const FULLY_COMPILED = 4 << 20;
+const FULLY_COMPILED = 1 << 20;
 
 const PRINTERS = { table, folded, trace, json };
 
