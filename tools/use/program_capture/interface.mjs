@@ -1,0 +1,209 @@
+/**
+ * Takes the place of WebAssembly's interface for JavaScript, so that instances are recorded while the program runs as it
+ * is. Works in Node.js, in pages and in workers. Each of its functions is a proxy of the engine's own: its name, length
+ * and text are the same, and where nothing can be recorded the engine's own function does the work.
+ */
+
+const { Module, Instance, Memory, Table, Global } = WebAssembly;
+const { compile, instantiate, compileStreaming, instantiateStreaming } = WebAssembly;
+const { apply, construct } = Reflect;
+const exportsOf = /** @type {() => object} */ (Object.getOwnPropertyDescriptor(Instance.prototype, 'exports')?.get);
+
+/** What the engine has, for what must not be recorded. */
+export const native = { Module, Instance, Memory, Table, Global, compile, instantiate };
+
+/** A copy of the bytes that a module is made from. Throws where the engine would. */
+function copied(source) {
+  const isView = ArrayBuffer.isView(source);
+  return new Uint8Array(isView ? source.buffer : source, isView ? source.byteOffset : 0, source.byteLength).slice();
+}
+
+/**
+ * One instance that is recorded.
+ * @typedef {object} Recording
+ * @property {() => Uint8Array[]} parts the modules that take the place of the program's
+ * @property {(imports: any, modules: WebAssembly.Module[], maximum: number | null | undefined) => object} join instantiates
+ *   the parts, and gives what the instance exports
+ * @property {(error: unknown) => boolean} isOwn whether an error is ours, and not the program's; notes it
+ */
+/**
+ * What the interface reports, beside the instances.
+ * @typedef {object} Listener
+ * @property {(module: WebAssembly.Module, bytes: Uint8Array | undefined) => Recording | null} recordingOf is asked of each
+ *   module that is to be instantiated
+ * @property {(table: WebAssembly.Table) => void} tableChanged
+ * @property {() => void} instanceMade
+ */
+
+export class Interface {
+  /** @param {Listener} listener */
+  constructor(listener) {
+    this.listener = listener;
+    this.sources = new WeakMap();
+    /** What instances that are recorded export. */
+    this.exports = new WeakMap();
+    /** The maxima of memories and tables, which no object gives back. */
+    this.maxima = new WeakMap();
+  }
+
+  note(module, bytes) {
+    if (bytes !== undefined) this.sources.set(module, bytes);
+    return module;
+  }
+
+  /** The recording of a module that is to be instantiated, or null. No error of ours gets to the program. */
+  begun(module) {
+    if (!(module instanceof Module)) return null;
+    try {
+      return this.listener.recordingOf(module, this.sources.get(module));
+    } catch {
+      return null;
+    }
+  }
+
+  /** The maximum of the memory that is imported, null if it has none, undefined if it is not known. */
+  maximum(module, imports) {
+    const item = Module.imports(module).find(({ kind }) => kind === 'memory');
+    return item === undefined ? undefined : this.maxima.get(imports?.[item.module]?.[item.name]);
+  }
+
+  /** The instance of a recording; `plainly` is what makes it without one. */
+  joined(recording, module, modules, imports, plainly) {
+    let all;
+    try {
+      all = recording.join(imports, modules, this.maximum(module, imports));
+    } catch (error) {
+      if (!recording.isOwn(error)) throw error;
+      return this.unrecorded(plainly);
+    }
+    const own = Object.create(null);
+    for (const { name } of Module.exports(module)) own[name] = all[name];
+    const instance = Object.create(Instance.prototype);
+    this.exports.set(instance, Object.freeze(own));
+    return instance;
+  }
+
+  unrecorded(plainly) {
+    this.listener.instanceMade();
+    return plainly();
+  }
+
+  now(module, imports, plainly) {
+    const recording = this.begun(module);
+    if (recording === null) return this.unrecorded(plainly);
+    let modules;
+    try {
+      modules = recording.parts().map(bytes => new Module(bytes));
+    } catch (error) {
+      recording.isOwn(error);
+      return this.unrecorded(plainly);
+    }
+    return this.joined(recording, module, modules, imports, plainly);
+  }
+
+  async later(module, imports, plainly) {
+    const recording = this.begun(module);
+    if (recording === null) return this.unrecorded(plainly);
+    let modules;
+    try {
+      modules = await Promise.all(recording.parts().map(bytes => compile(bytes)));
+    } catch (error) {
+      recording.isOwn(error);
+      return this.unrecorded(plainly);
+    }
+    return this.joined(recording, module, modules, imports, plainly);
+  }
+
+  /** `instantiate` of bytes: compiles them, and instantiates the module. */
+  async fromBytes(self, args) {
+    let bytes, module;
+    try {
+      bytes = copied(args[0]);
+      module = await compile(bytes);
+    } catch {
+      return apply(instantiate, self, args);
+    }
+    this.note(module, bytes);
+    return { module, instance: await this.later(module, args[1], () => instantiate(module, args[1])) };
+  }
+
+  /** The module of a response, and its bytes, which are read from a copy of it. */
+  async streamed(self, args) {
+    let copy;
+    const response = Promise.resolve(args[0]).then(given => {
+      try {
+        copy = given.clone().arrayBuffer();
+        copy.catch(() => {});
+      } catch {
+        copy = undefined;
+      }
+      return given;
+    });
+    const module = await apply(/** @type {any} */ (compileStreaming), self, [response, ...args.slice(1)]);
+    return this.note(module, copy === undefined ? undefined : new Uint8Array(await copy));
+  }
+
+  install() {
+    this.installConstructors();
+    this.installFunctions();
+    const { exports } = this;
+    const get = new Proxy(exportsOf, { apply: (target, self, args) => exports.get(self) ?? apply(target, self, args) });
+    Object.defineProperty(Instance.prototype, 'exports', { ...Object.getOwnPropertyDescriptor(Instance.prototype, 'exports'), get });
+    for (const name of ['set', 'grow']) this.watchTable(name);
+  }
+
+  /** Functions of a table that change it. */
+  watchTable(name) {
+    const { listener } = this;
+    Table.prototype[name] = new Proxy(Table.prototype[name], { apply: (target, table, args) => {
+      const result = apply(target, table, args);
+      listener.tableChanged(table);
+      return result;
+    } });
+  }
+
+  installConstructors() {
+    const remember = (made, description) => {
+      this.maxima.set(made, description?.maximum === undefined ? null : Number(description.maximum));
+      return made;
+    };
+    this.replaceClass('Module', Module, (target, args, made) => {
+      let bytes;
+      try { bytes = copied(args[0]); } catch { /* The engine's own error follows. */ }
+      return this.note(construct(target, args, made), bytes);
+    });
+    this.replaceClass('Instance', Instance, (target, args, made) => {
+      const instance = this.now(args[0], args[1], () => construct(target, args, made));
+      if (made.prototype !== undefined && made.prototype !== Instance.prototype) Object.setPrototypeOf(instance, made.prototype);
+      return instance;
+    });
+    for (const [name, own] of Object.entries({ Memory, Table })) {
+      this.replaceClass(name, own, (target, args, made) => remember(construct(target, args, made), args[0]));
+    }
+  }
+
+  replaceClass(name, own, make) {
+    const proxy = new Proxy(own, { construct: make });
+    WebAssembly[name] = proxy;
+    Object.defineProperty(own.prototype, 'constructor', { value: proxy, writable: true, enumerable: false, configurable: true });
+  }
+
+  replace(name, own, call) {
+    if (own !== undefined) WebAssembly[name] = new Proxy(own, { apply: (_, self, args) => call(self, args) });
+  }
+
+  installFunctions() {
+    this.replace('compile', compile, async (self, args) => {
+      let bytes;
+      try { bytes = copied(args[0]); } catch { /* The engine's own error follows. */ }
+      return this.note(await apply(compile, self, args), bytes);
+    });
+    this.replace('instantiate', instantiate, (self, args) => (args[0] instanceof Module
+      ? this.later(args[0], args[1], () => apply(instantiate, self, args)) : this.fromBytes(self, args)));
+    this.replace('compileStreaming', compileStreaming, (self, args) => this.streamed(self, args));
+    this.replace('instantiateStreaming', instantiateStreaming, async (self, args) => {
+      const module = await this.streamed(self, args);
+      return { module, instance: await this.later(module, args[1], () => instantiate(module, args[1])) };
+    });
+  }
+}
