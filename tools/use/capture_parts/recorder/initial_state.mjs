@@ -33,7 +33,7 @@ function bitsOf(global, type, mutable) {
  * @param {import('../../wasm/module.mjs').Constant} offset
  * @param {(index: number) => number} valueOfGlobal
  */
-function offsetOf({ all }, valueOfGlobal) {
+export function offsetOf({ all }, valueOfGlobal) {
   /** @type {number[]} */
   const stack = [];
   const pop = () => stack.pop() ?? 0;
@@ -63,7 +63,7 @@ export function initialState(p, rest, given) {
   const { m } = p;
   const own = (/** @type {string} */ name) => rest[p.prefix + name];
   const memory = m.memories.length > 0 ? own(REST_NAMES.memory) : null;
-  const table = p.usesTable ? own(REST_NAMES.table) : null;
+  const table = p.table >= 0 ? own(REST_NAMES.table) : null;
   const valueOfGlobal = (/** @type {number} */ index) => Number(own(REST_NAMES.global(index)).value);
   return {
     pages: memory === null ? 0 : native.buffer(memory).byteLength / 65536,

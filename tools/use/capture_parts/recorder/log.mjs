@@ -9,6 +9,8 @@ import { native } from './native.mjs';
 /** A crossing in so many looks at the clock, and the log goes to the sink after so many milliseconds. */
 const LOOK = 1024;
 const PATIENCE = 250;
+/** The clock as it is before the program, or what stands for its clock, is there. */
+const { now } = Date;
 const PIECE = 4 * (MOST_ENTRY_WORDS - 4);
 
 export class Log {
@@ -26,7 +28,7 @@ export class Log {
     this.words[LOG.limit] = 4 * (LOG_WORDS - MOST_ENTRY_WORDS);
     this.pair = new Int32Array(2);
     this.wide = new BigInt64Array(this.pair.buffer);
-    this.last = Date.now();
+    this.last = now();
   }
 
   get crossings() {
@@ -90,13 +92,12 @@ export class Log {
 
   /** Whether it is time for the sink. */
   look() {
-    const now = Date.now();
-    if (now - this.last >= PATIENCE) this.flush();
+    if (now() - this.last >= PATIENCE) this.flush();
   }
 
   flush() {
     const { words } = this;
-    this.last = Date.now();
+    this.last = now();
     const end = words[LOG.position];
     if (end === 4 * LOG.first) return;
     words[LOG.position] = 4 * LOG.first;

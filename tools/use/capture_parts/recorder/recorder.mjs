@@ -44,12 +44,13 @@ const isOverflow = (/** @type {any} */ error) => error instanceof RangeError && 
 export class Recorder {
   /**
    * @param {Plan} plan
-   * @param {{ sink?: (chunk: Uint8Array) => void, until?: number, isHashing?: boolean }} [options] without a sink the
+   * @param {{ sink?: (chunk: Uint8Array) => void, until?: number | null, isHashing?: boolean }} [options] without a sink the
    *   chunks are kept in `chunks`
    */
   constructor(plan, options = {}) {
     this.plan = plan;
     this.options = options;
+    this.until = options.until ?? Infinity;
     /** @type {Uint8Array[]} */
     this.chunks = [];
     /** @type {Over | null} */
@@ -188,7 +189,7 @@ export class Recorder {
 
   toHost() {
     if (this.plan.unsteadyGlobals.length > 0) this.watch.note();
-    if (this.options.until !== undefined && this.log.crossings >= this.options.until) this.stop(`after ${this.options.until} crossings`);
+    if (this.log.crossings >= this.until) this.stop(`after ${this.until} crossings`);
   }
 
   changedGlobals() {
@@ -283,6 +284,11 @@ export class Recorder {
       if (count > 0) floats.push([slot, count]);
     });
     this.sink(jsonChunk(CHUNK.marks, { entered, floats }));
+  }
+
+  /** Gives the sink what it does not have yet. */
+  flush() {
+    if (this.kept !== undefined && !this.hasEnded) this.guarded(() => this.log.flush(), undefined);
   }
 
   /** The program is at its end: all that is left goes to the sink. @param {string} why */

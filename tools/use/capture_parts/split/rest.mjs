@@ -30,7 +30,7 @@ function furtherExports(p) {
   const globals = new Set([...p.globals, ...imported]);
   return [
     exportItem(prefix + REST_NAMES.trampolines, KIND.table, m.tables.length),
-    ...p.usesTable ? [exportItem(prefix + REST_NAMES.table, KIND.table, p.table)] : [],
+    ...p.table >= 0 ? [exportItem(prefix + REST_NAMES.table, KIND.table, p.table)] : [],
     ...m.memories.length > 0 ? [exportItem(prefix + REST_NAMES.memory, KIND.memory, 0)] : [],
     ...[...functions].map(index => exportItem(prefix + REST_NAMES.function(index), KIND.function, index)),
     ...[...globals].map(index => exportItem(prefix + REST_NAMES.global(index), KIND.global, index)),
