@@ -98,6 +98,12 @@ export function captureOf(record, { whole = false } = {}) {
     /** The crossings as r3's history has them. */
     outline: () => outline(events, view),
     trimmed: view instanceof KeptView ? view.trimmed : null,
+    /** Whether the run for r3 ends by a trap, of the module or of the host. */
+    endsByTrap: events.endsWithin,
+    /** How many turns the host's actions take. */
+    actions: script?.turns() ?? 0,
+    /** How many imports, with functions of the host's own, and how many functions the module has. */
+    counts: view.counts(),
   };
 }
 

@@ -1,6 +1,6 @@
 /** The events of a record: crossings with their values, and what the host does between them. */
 import { calleeTypes } from '../split/plan.mjs';
-import { ACTION, FOLLOWING, FOREIGN, HOST_CALL, HOST_RETURN, IMPORT_CALL, WRITE } from '../recorder/log_layout.mjs';
+import { ACTION, FOLLOWING, FOREIGN, HOST_CALL, HOST_RETURN, IMPORT_CALL, IMPORT_RETURN, WRITE } from '../recorder/log_layout.mjs';
 import { isWide } from '../../wasm/value_types.mjs';
 
 /** @typedef {import('./record.mjs').Record} Record */
@@ -30,6 +30,11 @@ export class Events {
     this.end = this.lastPoint();
   }
 
+  /** Whether the events end while a call is open: the run for r3 ends by a trap, of the module or of the host. */
+  get endsWithin() {
+    return this.depth > 0;
+  }
+
   /** The types of the values of a crossing. @param {number} kind @param {number} number */
   types(kind, number) {
     const type = kind <= HOST_RETURN ? this.hostTypes[number] : this.importTypes[number];
@@ -52,14 +57,18 @@ export class Events {
   lastPoint() {
     const { words, end, until } = this.record;
     const isWhole = end !== null && ['exception', 'trap', undefined].includes(end.over?.by);
-    let [point, calls] = [0, 0];
+    let [point, calls, depth] = [0, 0, 0];
+    this.depth = 0;
     for (let at = 0; at < words.length && (until === null || calls < until);) {
       const kind = words[at] & 7;
       if (kind === ACTION && words[at] >>> 3 === FOREIGN) this.addForeign(at);
       if (kind === HOST_CALL || kind === IMPORT_CALL) calls++;
+      depth += kind === HOST_CALL || kind === IMPORT_CALL ? 1 : kind === HOST_RETURN || kind === IMPORT_RETURN ? -1 : 0;
       at += this.length(at);
-      if (kind === IMPORT_CALL || kind === HOST_RETURN) point = at;
-      if (isWhole && at === words.length) point = at;
+      if (kind === IMPORT_CALL || kind === HOST_RETURN || (isWhole && at === words.length)) {
+        point = at;
+        this.depth = depth;
+      }
     }
     return point;
   }

@@ -35,6 +35,10 @@ export class KeptView {
     return `[${lines.join(',\n')}]\n`;
   }
 
+  counts() {
+    return { imports: this.trimmed.imports + this.foreign.length, functions: this.trimmed.kept.length };
+  }
+
   /** Whether the first call by the host is that of the start function, which r3 makes by itself. */
   startsItself() {
     return false;

@@ -16,6 +16,7 @@ export class NotWhole extends Error {}
  * @property {Uint8Array} module
  * @property {string[]} supplied parts of the script's text
  * @property {() => string | null} declarations
+ * @property {() => { imports: number, functions: number }} counts
  * @property {() => boolean} startsItself
  * @property {(slot: number) => string} call
  * @property {(place: number) => string[]} importNames
@@ -124,6 +125,14 @@ export class Script {
       const text = this.view.setEntry(first, second, number === FIRST_ENTRY);
       if (text !== null) this.late.push(text);
     } else if (number !== FOREIGN) throw new Error(`the log has an action ${number}`);
+  }
+
+  /** How many turns the actions take. */
+  turns() {
+    const count = (/** @type {Actions} */ actions) => actions.reduce((sum, part) => sum + (typeof part === 'string' ? 1 : part.length), 0);
+    let sum = count(this.main);
+    for (const list of this.answers.values()) for (const { actions } of list) sum += count(actions);
+    return sum;
   }
 
   /** @param {number} index @param {number} low @param {number} high */

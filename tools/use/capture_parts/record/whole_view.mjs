@@ -93,6 +93,10 @@ export class WholeView {
     return null;
   }
 
+  counts() {
+    return { imports: this.m.importedFunctions, functions: this.m.bodies.length };
+  }
+
   startsItself() {
     return this.m.start !== null && this.m.start >= this.m.importedFunctions;
   }

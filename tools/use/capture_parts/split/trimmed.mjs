@@ -8,8 +8,8 @@ import { typeName } from '../../wasm/value_types.mjs';
 /** What stands for functions in the table whose type K does not call. */
 const OTHER_NAME = 'a function of another type';
 
-/** r3 has this name for functions of the host's own. */
-const RESERVED = 'foreign';
+/** r3 has these names for functions of the host's own and for hooks. */
+const RESERVED = ['foreign', 'r3'];
 
 /** Names that are given once: a second one gets a number. */
 class Names {
@@ -52,7 +52,7 @@ class Names {
 function calleeNames({ m, names }, index) {
   const item = m.imports.find(other => other.kind === 0 && other.index === index);
   if (item === undefined) return ['rest', names[index]];
-  return [item.module === RESERVED ? `${RESERVED} of the module` : item.module, item.name];
+  return [RESERVED.includes(item.module) ? `${item.module} of the module` : item.module, item.name];
 }
 
 /** @param {string[][]} wanted pairs of names @param {(place: number) => string} more */
