@@ -3,16 +3,10 @@ import fs from 'node:fs';
 import path from 'node:path';
 import { captureOf, isTaken, nextChoice, readRecord } from '../capture_parts/result.mjs';
 import { refuse } from '../capture_parts/refusal.mjs';
+import { packed } from './packed.mjs';
 import { program } from './r3_program.mjs';
 
-/**
- * An instance that is taken. `next` is the choice for a further run, or null.
- * @typedef {object} Chosen
- * @property {import('./instances.mjs').Instance} instance
- * @property {any} made
- * @property {any} choice
- * @property {{choice: any, why: string} | null} next
- */
+/** @typedef {{choice: any, until: number | null, isRun: boolean, why: string[]}} Next */
 
 /** The record of an instance, or null if nothing of it can be read. */
 function recordOf({ record }) {
@@ -24,9 +18,9 @@ function recordOf({ record }) {
   }
 }
 
-/** How much ran, by which instances are compared: those of Node.js itself come last. */
+/** By what instances are compared: those of Node.js itself come last, those of which most functions ran first. */
 function rank({ instance, record }) {
-  return [instance.isOfNode ? 0 : 1, record.entered.size > 0 ? 1 : 0, record.entered.size * Math.log2(2 + record.words.length), instance.size ?? 0];
+  return [instance.isOfNode ? 0 : 1, record.entered.size, record.words.length, instance.size ?? 0];
 }
 
 function byRank(one, other) {
@@ -35,18 +29,43 @@ function byRank(one, other) {
   return place === -1 ? 0 : right[place] - left[place];
 }
 
-/** Whether r3 takes a module as it is. */
-function isTakenAsItIs(record, folder) {
-  const file = path.join(folder, 'original.wasm');
-  fs.writeFileSync(file, record.plan.m.bytes);
-  return isTaken(program, file);
-}
+/** An instance that is taken. */
+export class Chosen {
+  /** @param {import('./instances.mjs').Instance} instance @param {any} record @param {string} log a folder */
+  constructor(instance, record, log) {
+    Object.assign(this, { instance, record, log });
+    const file = path.join(log, 'original.wasm');
+    fs.writeFileSync(file, record.plan.m.bytes);
+    this.whole = isTaken(program, file);
+    this.choice = record.plan.choice;
+    /** @type {import('./packed.mjs').Packed | null} */
+    this.packed = null;
+    this.made = captureOf(record, { whole: this.whole });
+  }
 
-function chosen(item, words, folder) {
-  const { instance, record } = item;
-  const made = captureOf(record, { whole: isTakenAsItIs(record, folder) });
-  const { choice } = record.plan;
-  return { instance, made, choice, next: nextChoice(made, choice, { fit: words.fit }) };
+  /**
+   * What to do next, or null. With `fits` the limits of r3 are a reason too, and the record is cut if no choice helps.
+   * @param {boolean} fits
+   * @returns {Next | null}
+   */
+  next(fits) {
+    let next = nextChoice(this.made, this.choice, { passed: null });
+    while (fits && next === null) {
+      this.packed = packed(this.made, path.join(this.log, `packed-${this.instance.number}`), true);
+      if (this.packed.limit === null) return null;
+      next = nextChoice(this.made, this.choice, { passed: this.packed.limit.passed });
+      if (next === null || next.isRun) return next;
+      this.cut(next.until);
+      next = null;
+    }
+    return next;
+  }
+
+  /** Takes the first crossings of the record alone. */
+  cut(until) {
+    this.record.until = until;
+    this.made = captureOf(this.record, { whole: this.whole });
+  }
 }
 
 /** Says why nothing is recorded. */
@@ -58,13 +77,13 @@ function refuseNone(instances) {
 
 /**
  * @param {import('./instances.mjs').Instance[]} instances
- * @param {import('./words.mjs').Words} words
- * @param {string} folder of the log
+ * @param {boolean} all
+ * @param {string} log a folder
  * @returns {Chosen[]}
  */
-export function chosenOf(instances, words, folder) {
+export function chosenOf(instances, all, log) {
   const found = instances.map(instance => ({ instance, record: recordOf(instance) })).filter(({ record }) => record !== null);
   if (found.length === 0) refuseNone(instances);
-  const taken = words.all ? found : [...found].sort(byRank).slice(0, 1);
-  return taken.map(item => chosen(item, words, folder));
+  const taken = all ? found : [...found].sort(byRank).slice(0, 1);
+  return taken.map(({ instance, record }) => new Chosen(instance, record, log));
 }

@@ -13,8 +13,12 @@ import { Progress } from './progress.mjs';
 import { settingsOf } from './settings.mjs';
 import { StandardStreams } from './standard_streams.mjs';
 
-/** A program is run so often at most. */
-const MOST_RUNS = 12;
+/** A program is run again so often at most, and more often with `--fit`. */
+const MOST_RUNS = 5;
+const MOST_FIT_RUNS = 12;
+
+/** Reasons that a line of ours has. */
+const MOST_REASONS = 3;
 
 /**
  * How a run of the program ended.
@@ -32,6 +36,7 @@ const MOST_RUNS = 12;
  * @property {import('./instances.mjs').Instance[]} instances
  * @property {import('./chosen.mjs').Chosen[]} chosen
  * @property {string[]} reasons why the program was run again
+ * @property {string | null} faults of ours that the program did not see
  */
 
 export class Rounds {
@@ -49,20 +54,24 @@ export class Rounds {
 
   /** @returns {Promise<Round>} */
   async run() {
+    const most = this.words.fit ? MOST_FIT_RUNS : MOST_RUNS;
     /** @type {Record<string, object> | null} */
     let choices = null;
     for (let runs = 1; ; runs++) {
       const round = await this.round(runs, choices);
-      const next = round.ending.signal !== null || runs === MOST_RUNS ? [] : round.chosen.filter(item => item.next !== null);
-      if (next.length === 0) return round;
-      choices = Object.fromEntries(round.chosen.map(item => [item.instance.digest, item.next?.choice ?? item.choice]));
-      for (const { next: { why } } of next) this.again(why);
+      const isLast = round.ending.signal !== null || runs === most;
+      const next = isLast ? [] : round.chosen.map(item => item.next(this.words.fit));
+      if (next.every(item => item === null)) return round;
+      choices = Object.fromEntries(round.chosen.map((item, place) => [item.instance.digest, next[place]?.choice ?? item.choice]));
+      this.again(next.flatMap(item => item?.why ?? []));
     }
   }
 
+  /** Says why the program is run again. @param {string[]} why */
   again(why) {
-    this.reasons.push(why);
-    this.say(`the program is run again: ${why}`);
+    this.reasons.push(...why);
+    const more = why.length > MOST_REASONS ? `; and ${why.length - MOST_REASONS} more` : '';
+    this.say(`the program is run again: ${why.slice(0, MOST_REASONS).join('; ')}${more}`);
   }
 
   /** @param {number} runs @param {Record<string, object> | null} choices @returns {Promise<Round>} */
@@ -74,7 +83,7 @@ export class Rounds {
     const ending = await this.runOf(settings, folder).finally(() => progress.end());
     if (runs > 1) fs.rmSync(path.join(this.folder, `run-${runs - 1}`), { recursive: true });
     const instances = instancesOf(folder);
-    return { runs, ending, instances, chosen: chosenOf(instances, this.words, this.folder), reasons: this.reasons, faults: faultsOf(folder) };
+    return { runs, ending, instances, chosen: chosenOf(instances, this.words.all, this.folder), reasons: this.reasons, faults: faultsOf(folder) };
   }
 
   /** @returns {Promise<Ending>} */
@@ -95,5 +104,5 @@ export function roundOfLog(words, folder) {
   const last = Math.max(...names.map(name => Number(name.slice(4))), 0);
   const instances = last === 0 ? [] : instancesOf(path.join(folder, `run-${last}`));
   return { runs: last, ending: { status: null, signal: 'unknown', page: null, errors: 0, picture: null }, instances,
-    chosen: chosenOf(instances, words, folder), reasons: [], faults: null };
+    chosen: chosenOf(instances, words.all, folder), reasons: [], faults: null };
 }
