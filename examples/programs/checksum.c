@@ -23,11 +23,12 @@ __attribute__((export_name("checksum"))) u32 checksum(u32 length) {
     if (table[1] == 0) {
         fill_table();
     }
-    for (u32 i = 0; i < length; i++) {
-        if (i % 4096 == 0) {
-            progress(i / (double)length);
+    for (u32 at = 0; at < length; at += 4096) {
+        u32 end = length - at < 4096 ? length : at + 4096;
+        for (u32 i = at; i < end; i++) {
+            value = table[(value ^ room[i]) & 255] ^ (value >> 8);
         }
-        value = table[(value ^ room[i]) & 255] ^ (value >> 8);
+        progress(end / (double)length);
     }
     return ~value;
 }

@@ -4,7 +4,7 @@
 #include <stdlib.h>
 #include <string.h>
 
-enum { SIZE = 64, FRAMES = 12 };
+enum { SIZE = 32, FRAMES = 4 };
 
 static unsigned char boards[2][SIZE * SIZE];
 static int frames;
@@ -15,7 +15,7 @@ EM_JS(void, draw, (const unsigned char *board, int size, double brightness), {
         for (let x = 0; x < size; x++) {
             const alive = HEAPU8[board + y * size + x];
             context.fillStyle = alive ? 'rgb(0,' + Math.round(brightness * 200) + ',80)' : 'white';
-            context.fillRect(4 * x, 4 * y, 4, 4);
+            context.fillRect(8 * x, 8 * y, 8, 8);
         }
     }
 });
@@ -45,7 +45,7 @@ static void frame(void) {
         }
     }
     frames++;
-    draw(new, SIZE, 1 - frames / 24.0);
+    draw(new, SIZE, 1 - frames / 8.0);
     printf("frame %d: %d alive, %.3f of all\n", frames, alive, alive / (double)(SIZE * SIZE));
     if (frames == FRAMES) {
         emscripten_cancel_main_loop();

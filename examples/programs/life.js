@@ -1434,7 +1434,7 @@ var tempI64;
 var ASM_CONSTS = {
   
 };
-function draw(board,size,brightness){ const context = document.getElementById('canvas').getContext('2d'); for (let y = 0; y < size; y++) { for (let x = 0; x < size; x++) { const alive = HEAPU8[board + y * size + x]; context.fillStyle = alive ? 'rgb(0,' + Math.round(brightness * 200) + ',80)' : 'white'; context.fillRect(4 * x, 4 * y, 4, 4); } } }
+function draw(board,size,brightness){ const context = document.getElementById('canvas').getContext('2d'); for (let y = 0; y < size; y++) { for (let x = 0; x < size; x++) { const alive = HEAPU8[board + y * size + x]; context.fillStyle = alive ? 'rgb(0,' + Math.round(brightness * 200) + ',80)' : 'white'; context.fillRect(8 * x, 8 * y, 8, 8); } } }
 function finished(){ if (globalThis.r3) r3.done(); }
 
 
