@@ -283,7 +283,7 @@ export class Recorder {
       const count = plan.needs(index).floats.size > 0 ? kept[KEPT_NAMES.floats(slot)].value >>> 0 : 0;
       if (count > 0) floats.push([slot, count]);
     });
-    this.sink(jsonChunk(CHUNK.marks, { entered, floats }));
+    this.sink(jsonChunk(CHUNK.marks, { crossings: this.log.crossings, entered, floats }));
   }
 
   /** Gives the sink what it does not have yet. */
