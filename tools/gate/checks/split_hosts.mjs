@@ -32,6 +32,7 @@ export class RandomHost {
     this.memory = module.importsMemory ? new WebAssembly.Memory({ initial: 1, maximum: 4 }) : null;
     this.table = module.importsTable ? new WebAssembly.Table({ element: 'anyfunc', initial: module.tableSize, maximum: 16 }) : null;
     if (this.memory !== null) new Uint8Array(this.memory.buffer).set([1, 2, 3, 4, 5], 400);
+    if (this.table !== null) for (let place = 0; place < module.tableSize; place++) this.table.set(place, this.ownFunction(place % IMPORTS));
   }
 
   imports() {
@@ -66,13 +67,13 @@ export class RandomHost {
   }
 
   action() {
-    const kind = this.random.below(9);
+    const kind = this.random.below(10);
     if (kind <= 2) this.writeBytes();
     else if (kind === 3) this.setGlobal();
     else if (kind === 4) this.growMemory();
-    else if (kind === 5) this.setEntry();
-    else if (kind === 6) this.growTable();
-    else if (kind === 7) this.callEntry();
+    else if (kind <= 6) this.setEntries();
+    else if (kind === 7) this.growTable();
+    else if (kind === 8) this.callEntry();
     else if (this.depth < DEEPEST) this.callExport();
   }
 
@@ -98,12 +99,28 @@ export class RandomHost {
     }
   }
 
+  setEntries() {
+    if (!this.module.exportsTable) return;
+    for (let count = 1 + this.random.below(4); count > 0; count--) this.setEntry();
+  }
+
   setEntry() {
     const { random, exports: { table } } = this;
-    if (!this.module.exportsTable) return;
     const place = random.below(table.length);
-    table.set(place, this.someFunction(table));
+    table.set(place, random.chance(50) ? this.fittingFunction(place) : this.someFunction(table));
     this.hooks.tableChanged(table);
+  }
+
+  /** A function of the type that an entry had at first, if there is one: of the host's own, or of the module. */
+  fittingFunction(place) {
+    const { entries, signatures, exported } = this.module;
+    const type = item => `${item.params}>${item.results}`;
+    const first = entries[place] ?? this.random.below(IMPORTS);
+    const fits = index => type(signatures[index]) === type(signatures[first]);
+    const own = signatures.slice(0, IMPORTS).findIndex((_, index) => fits(index));
+    if (own !== -1 && this.random.chance(60)) return this.ownFunction(own);
+    const others = exported.filter(fits);
+    return others.length > 0 ? this.exports[`e${this.random.pick(others)}`] : null;
   }
 
   someFunction(table) {

@@ -41,11 +41,11 @@ class Body {
     const place = this.local(type);
     if (depth <= 0) return place !== null && random.chance(60) ? [0x20, u32(place)] : this.literal(type);
     const inner = other => this.value(other, depth - 1 - random.below(2));
-    const kind = random.below(12);
+    const kind = random.below(14);
     if (kind === 0) return [this.address(depth), random.pick(LOADS[type]), 0, u32(this.offset())];
     if (kind === 1) return this.global(type);
     if (kind <= 3) return this.call(type, inner);
-    if (kind === 4) return this.indirectCall(type, inner);
+    if (kind === 4 || kind >= 12) return this.indirectCall(type, inner);
     if (kind === 5) return [inner(I32), 0x04, type, this.statement(depth - 1), inner(type), 0x05, inner(type), END];
     if (kind === 6) return [inner(type), inner(type), inner(I32), random.chance(module.isPlain ? 0 : 20) ? [0x1c, 1, type] : 0x1b];
     if (kind === 7 && type === I32) return random.chance(80) ? [0x3f, 0] : [0x41, 1, 0x40, 0];
@@ -80,7 +80,7 @@ class Body {
   indirectCall(type, inner) {
     const { random, module } = this;
     const places = module.signatures.filter(item => item.results.length === 1 && item.results[0] === type);
-    if (places.length === 0 || !random.chance(70)) return this.literal(type);
+    if (places.length === 0) return this.literal(type);
     const item = random.pick(places);
     const number = module.types.index(item);
     const fitting = module.entries.flatMap((index, place) =>
@@ -204,7 +204,7 @@ export class RandomModule {
     const count = 3 + random.below(7);
     for (let index = 0; index < count; index++) {
       const results = !isPlain && random.chance(8) ? [I32, I64] : this.some(1);
-      this.signatures.push({ params: this.some(3), results });
+      this.signatures.push(random.chance(40) ? random.pick(MAIN_IMPORTS) : { params: this.some(3), results });
     }
     this.globals = [I32, ...Array.from({ length: 3 }, () => random.pick(TYPES))];
     [this.importsMemory, this.importsTable, this.exportsTable] = [random.chance(25), random.chance(25), random.chance(60)];
