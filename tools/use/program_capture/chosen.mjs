@@ -5,6 +5,7 @@ import { captureOf, isTaken, nextChoice, readRecord } from '../capture_parts/res
 import { refuse } from '../capture_parts/refusal.mjs';
 import { packed } from './packed.mjs';
 import { program } from './r3_program.mjs';
+import { NOT_CHOSEN } from './session.mjs';
 
 /** @typedef {{choice: any, until: number | null, isRun: boolean, why: string[]}} Next */
 
@@ -31,8 +32,8 @@ function byRank(one, other) {
 
 /** An instance that is taken. */
 export class Chosen {
-  /** @param {import('./instances.mjs').Instance} instance @param {any} record @param {string} log a folder */
-  constructor(instance, record, log) {
+  /** @param {import('./instances.mjs').Instance} instance @param {any} record @param {string} log a folder @param {number | null} until */
+  constructor(instance, record, log, until) {
     Object.assign(this, { instance, record, log });
     const file = path.join(log, 'original.wasm');
     fs.writeFileSync(file, record.plan.m.bytes);
@@ -40,6 +41,7 @@ export class Chosen {
     this.choice = record.plan.choice;
     /** @type {import('./packed.mjs').Packed | null} */
     this.packed = null;
+    if (until !== null) record.until = until;
     this.made = captureOf(record, { whole: this.whole });
   }
 
@@ -61,6 +63,15 @@ export class Chosen {
     return next;
   }
 
+  /** Makes of a log, without a further run, what is short enough for r3. */
+  fitLog() {
+    for (;;) {
+      this.packed = packed(this.made, path.join(this.log, `packed-${this.instance.number}`), true);
+      if (this.packed.limit === null || this.made.report.crossings < 2) return;
+      this.cut(Math.floor(this.made.report.crossings / 2));
+    }
+  }
+
   /** Takes the first crossings of the record alone. */
   cut(until) {
     this.record.until = until;
@@ -69,21 +80,24 @@ export class Chosen {
 }
 
 /** Says why nothing is recorded. */
-function refuseNone(instances) {
+function refuseNone(instances, module) {
   if (instances.length === 0) refuse('the program made no instance of WebAssembly');
+  if (module !== null && instances.every(({ why }) => why === NOT_CHOSEN)) {
+    refuse(`--module ${module}: none of ${instances.length} modules has this number or exports this name`);
+  }
   const listed = instances.slice(0, 8).map(({ number, size, why }) => `module ${number}${size === null ? '' : ` of ${size} bytes`}: ${why ?? 'nothing of it ran'}`);
   refuse(`nothing was recorded: ${listed.join('; ')}${instances.length > 8 ? '; ..' : ''}`);
 }
 
 /**
  * @param {import('./instances.mjs').Instance[]} instances
- * @param {boolean} all
+ * @param {import('./words.mjs').Words} words
  * @param {string} log a folder
  * @returns {Chosen[]}
  */
-export function chosenOf(instances, all, log) {
+export function chosenOf(instances, { all, module, until }, log) {
   const found = instances.map(instance => ({ instance, record: recordOf(instance) })).filter(({ record }) => record !== null);
-  if (found.length === 0) refuseNone(instances);
+  if (found.length === 0) refuseNone(instances, module);
   const taken = all ? found : [...found].sort(byRank).slice(0, 1);
-  return taken.map(({ instance, record }) => new Chosen(instance, record, log));
+  return taken.map(({ instance, record }) => new Chosen(instance, record, log, until));
 }

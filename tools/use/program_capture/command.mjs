@@ -45,12 +45,13 @@ async function refuseFaults(words) {
 
 /** What a captured folder has, in a line. */
 function summary(folder, { sizes, comparison, limit }) {
-  const replay = sizes['replay.wasm'] === undefined ? '' : `, a replay of ${sizes['replay.wasm']} bytes`;
+  const [script, replay] = [['script', 'script.json'], ['replay', 'replay.wasm']].map(([what, name]) =>
+    (sizes[name] === undefined ? '' : `, a ${what} of ${sizes[name]} bytes`));
   const seen = comparison === null ? '' : `; r3 does exactly what was seen, compared by ${comparison.by}`;
-  return `${folder}: a module of ${sizes['module.wasm']} bytes, a script of ${sizes['script.json']} bytes${replay}${seen}${limit === null ? '' : `; ${limit}`}`;
+  return `${folder}: a module of ${sizes['module.wasm']} bytes${script}${replay}${seen}${limit === null ? '' : `; ${limit}`}`;
 }
 
-/** Writes what a run gives, and says what it is. */
+/** Writes what a run gives, and says what it is. Gives whether it is within r3's limits. */
 async function write(words, folder, round, say) {
   const name = item => (words.all ? `/instance-${item.instance.number}` : '');
   const reports = [];
@@ -66,14 +67,15 @@ async function write(words, folder, round, say) {
   else if (status !== null && status !== 0) say(`the program ended with status ${status}`);
   if (round.faults !== null) say(`errors of capture that the program did not see: ${round.faults.split('\n', 1)[0]}`);
   for (const [inner, report] of reports) say(summary(inner, report));
+  return reports.every(([, { limit }]) => limit === null);
 }
 
 /** Captures into a folder; what runs is `rounds`. The log stays where it may be asked for again. */
 async function capture(words, folder, rounds, say) {
   let keepsLog = true;
   try {
-    await write(words, folder, await rounds(), say);
-    keepsLog = false;
+    keepsLog = !await write(words, folder, await rounds(), say);
+    if (keepsLog) say(`the log is in ${folder.log}: --from-log ${folder.log} with --until N or --fit takes its beginning`);
   } catch (error) {
     if (error instanceof Refusal && words.fromLog === null) keepsLog = false;
     if (error instanceof OwnFault) throw new Refusal(`a fault of capture itself: ${error.message}; the log is in ${folder.log}`);
@@ -93,7 +95,7 @@ function fromLog(words, say) {
     refuse(`${words.fromLog} is no log of a capture`);
   }
   const output = words.output ?? log.replace(/\.log$/, '');
-  const all = { ...first, output, fromLog: log };
+  const all = { ...first, output, fromLog: log, until: words.until, fit: words.fit, make: words.make };
   const folder = new OutputFolder(output);
   folder.log = log;
   return capture(all, folder, async () => roundOfLog(all, log), say);

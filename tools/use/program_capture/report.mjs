@@ -4,7 +4,7 @@ import { MARK } from './output_folder.mjs';
 /** How the program ended, in words. */
 function endOfProgram({ status, signal, page }) {
   if (page !== null) return page;
-  if (signal !== null) return signal === 'unknown' ? 'it was killed' : `signal ${signal}`;
+  if (signal !== null) return signal;
   return `status ${status}`;
 }
 

@@ -83,7 +83,7 @@ export class Rounds {
     const ending = await this.runOf(settings, folder).finally(() => progress.end());
     if (runs > 1) fs.rmSync(path.join(this.folder, `run-${runs - 1}`), { recursive: true });
     const instances = instancesOf(folder);
-    return { runs, ending, instances, chosen: chosenOf(instances, this.words.all, this.folder), reasons: this.reasons, faults: faultsOf(folder) };
+    return { runs, ending, instances, chosen: chosenOf(instances, this.words, this.folder), reasons: this.reasons, faults: faultsOf(folder) };
   }
 
   /** @returns {Promise<Ending>} */
@@ -103,6 +103,8 @@ export function roundOfLog(words, folder) {
   const names = fs.readdirSync(folder).filter(name => /^run-\d+$/.test(name));
   const last = Math.max(...names.map(name => Number(name.slice(4))), 0);
   const instances = last === 0 ? [] : instancesOf(path.join(folder, `run-${last}`));
-  return { runs: last, ending: { status: null, signal: 'unknown', page: null, errors: 0, picture: null }, instances,
-    chosen: chosenOf(instances, words.all, folder), reasons: [], faults: null };
+  const chosen = chosenOf(instances, words, folder);
+  if (words.fit) for (const item of chosen) item.fitLog();
+  return { runs: last, ending: { status: null, signal: 'a signal', page: null, errors: 0, picture: null }, instances,
+    chosen, reasons: [], faults: null };
 }

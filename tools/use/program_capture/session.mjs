@@ -32,6 +32,8 @@ import { NotSplit, OwnFault, Recorder, planOf } from '../capture_parts/engine.mj
 
 const encoder = new TextEncoder();
 
+export const NOT_CHOSEN = 'it is not chosen';
+
 /** Whether the frames next to here are those of Node.js itself, which has modules of its own. */
 function isOfNode() {
   const lines = (new Error().stack ?? '').split('\n').slice(1);
@@ -83,7 +85,7 @@ export class Session {
       return null;
     }
     if (!this.isWanted(info)) {
-      noted({ why: 'it is not chosen' });
+      noted({ why: NOT_CHOSEN });
       return null;
     }
     try {
@@ -144,14 +146,14 @@ export class Session {
     if (this.isScheduled) return;
     this.isScheduled = true;
     this.place.often(() => {
-      for (const { recorder } of this.recorded) recorder.flush?.();
+      for (const { recorder } of this.recorded) recorder.flush();
     });
   }
 
   /** The run is over. What follows is written too if this is called again. */
   end() {
     for (const { recorder, sink } of this.recorded) {
-      recorder.end('exit');
+      recorder.end('the program has ended');
       sink.end();
     }
     if (this.settings.isFirst && !this.isEnded) this.place.putNotes(this.inputs.notes);
