@@ -23,6 +23,8 @@ import memory
 import module_answers
 import pairs
 import prefixes
+import program_refusals
+import programs
 import projections
 import replay_bytes
 import rests
@@ -35,6 +37,8 @@ CHAINS = [
     [("larger inputs", large.checks), ("memory errors", memory.checks)],
     [("examples", examples.checks), ("examples in other engines", engines.checks)],
     [("captured hosts", captures.checks)],
+    [("programs of Node.js", programs.checks)],
+    [("programs of pages", programs.pages), ("captures that are refused", program_refusals.checks)],
     [("files that are cut", prefixes.checks)],
     [("two modules", pairs.checks)],
     [("a later call", rests.checks)],

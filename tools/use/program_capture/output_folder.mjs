@@ -69,8 +69,8 @@ export class OutputFolder {
     this.log = `${this.folder}.log`;
     /** @type {string | null} */
     this.written = null;
-    refuseTaken(this.folder);
     refuseCurrent(this.folder);
+    refuseTaken(this.folder);
   }
 
   /** A new folder for the log. That of a run that was killed is removed. */
