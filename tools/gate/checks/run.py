@@ -29,6 +29,7 @@ import projections
 import replay_bytes
 import rests
 import run_tables
+import splits
 import statuses
 import wrapper
 from group import Group
@@ -37,6 +38,7 @@ CHAINS = [
     [("larger inputs", large.checks), ("memory errors", memory.checks)],
     [("examples", examples.checks), ("examples in other engines", engines.checks)],
     [("captured hosts", captures.checks)],
+    [("random splits", splits.checks)],
     [("programs of Node.js", programs.checks)],
     [("programs of pages", programs.pages), ("captures that are refused", program_refusals.checks)],
     [("files that are cut", prefixes.checks)],

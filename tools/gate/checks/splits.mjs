@@ -15,7 +15,7 @@ import { captureOf, checkBodies, isTaken, readRecord } from '../../use/capture_p
 import { runObserved } from '../../use/capture_parts/compare/observed_replay.mjs';
 import { historyValue } from '../../use/capture_parts/record/values.mjs';
 import { isCrossing } from '../../use/capture_parts/record/outline.mjs';
-import { HASH_FACTOR } from '../../use/capture_parts/split/watcher.mjs';
+import { HASH_FACTOR } from '../../use/capture_parts/split/operations.mjs';
 import { instructionsOf, readModule } from '../../use/wasm/module.mjs';
 import { Random } from './random.mjs';
 import { RandomHost } from './split_hosts.mjs';
@@ -95,7 +95,7 @@ class Test {
 
   recorder() {
     try {
-      return new Recorder(planOf(this.module.bytes, this.choice()), { isHashing: true });
+      return new Recorder(planOf(this.module.bytes, this.choice()), { isHashing: true, accesses: this.random.pick([0, 1, 3, 24]) });
     } catch (error) {
       if (!(error instanceof NotSplit)) throw error;
       this.sums.skipped++;
@@ -123,7 +123,7 @@ class Test {
     const { lines, seen, declared } = this.compared(made);
     if (record.end.over === null) {
       const hash = hashOf(lines, made.module, declared);
-      if (hash !== BigInt.asUintN(64, recorder.watch.hash.value)) fail('the loads of r3 give other values than those that were seen');
+      if (hash !== BigInt.asUintN(64, recorder.kept.hash.value)) fail('the loads of r3 give other values than those that were seen');
     }
     this.count(made, record, lines, seen);
   }

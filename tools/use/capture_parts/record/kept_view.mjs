@@ -16,13 +16,13 @@ const foreignName = number => `the host's function ${number}`;
 export class KeptView {
   /** @param {Events} events @param {Contents} contents */
   constructor(events, contents) {
-    const { plan, entered, state } = events.record;
+    const { plan, entered, state, used } = events.record;
     this.plan = plan;
     this.isWhole = false;
     this.trimmed = trimmedPlan(plan, entered, contents);
     this.foreign = events.foreignTypes();
     this.firstForeign = plan.callees.length + plan.floats.length;
-    this.module = keptBytes(this.trimmed, state, contents);
+    this.module = keptBytes(this.trimmed, state, contents, used);
     /** @type {string[]} */
     this.supplied = [];
   }

@@ -21,6 +21,7 @@ import { CHUNK, chunksOf } from '../recorder/chunks.mjs';
  * @property {Int32Array} words
  * @property {Set<number>} entered
  * @property {Map<number, number>} floatCounts
+ * @property {[number, number][][]} used for each data segment, the runs of addresses that K has used
  * @property {End | null} end
  */
 
@@ -49,14 +50,15 @@ export function readRecord(bytes) {
   const parts = [];
   let complete = 0;
   /** @type {any} */
-  const found = { module: null, head: null, end: null, entered: new Set(), floatCounts: new Map() };
+  const found = { module: null, head: null, end: null, used: [], entered: new Set(), floatCounts: new Map() };
   for (const { tag, bytes: part } of chunksOf(bytes)) {
     if (tag === CHUNK.words) parts.push(part);
     else if (tag === CHUNK.module) found.module = part.slice();
     else if (tag === CHUNK.head) found.head = json(part);
     else if (tag === CHUNK.end) found.end = json(part);
     else if (tag === CHUNK.marks) {
-      const { entered, floats } = json(part);
+      const { entered, floats, used } = json(part);
+      found.used = used;
       for (const slot of entered) found.entered.add(slot);
       for (const [slot, count] of floats) found.floatCounts.set(slot, count);
       complete = parts.length;
@@ -66,5 +68,5 @@ export function readRecord(bytes) {
   const { choice, state, until } = found.head;
   const words = new Int32Array(joined(parts.slice(0, complete)).buffer);
   return { plan: planOf(found.module, choice), state, until, words, entered: found.entered, floatCounts: found.floatCounts,
-    end: found.end };
+    used: found.used, end: found.end };
 }

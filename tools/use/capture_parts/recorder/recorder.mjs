@@ -3,7 +3,7 @@ import { bridgeBytes, isBridged } from '../split/bridges.mjs';
 import { calleeTypes } from '../split/plan.mjs';
 import { REST_NAMES, restBytes } from '../split/rest.mjs';
 import { KEPT_NAMES, firstKept, watchedBytes } from '../split/watched.mjs';
-import { floatBytes, shadowBytes } from '../split/watcher.mjs';
+import { ACCESSES, MOST_PAGES, floatBytes, shadowBytes } from '../split/watcher.mjs';
 import { CHUNK, chunk, jsonChunk } from './chunks.mjs';
 import { Entries } from './entries.mjs';
 import { initialState } from './initial_state.mjs';
@@ -18,9 +18,6 @@ import { Unwinding } from './unwinding.mjs';
 
 /** The recorder itself has failed before any code of the program ran. */
 export class OwnFault extends Error {}
-
-/** r3 takes memories of at most so many pages. */
-const MOST_PAGES = 4096;
 
 /**
  * How the record ended before the program did.
@@ -44,7 +41,7 @@ const isOverflow = (/** @type {any} */ error) => error instanceof RangeError && 
 export class Recorder {
   /**
    * @param {Plan} plan
-   * @param {{ sink?: (chunk: Uint8Array) => void, until?: number | null, isHashing?: boolean }} [options] without a sink the
+   * @param {{ sink?: (chunk: Uint8Array) => void, until?: number | null, isHashing?: boolean, accesses?: number }} [options] without a sink the
    *   chunks are kept in `chunks`
    */
   constructor(plan, options = {}) {
@@ -75,7 +72,7 @@ export class Recorder {
 
   /** The bytes of R and of K. */
   parts() {
-    return [restBytes(this.plan), watchedBytes(this.plan)];
+    return [restBytes(this.plan), watchedBytes(this.plan, this.options.isHashing ?? false)];
   }
 
   /**
@@ -106,6 +103,7 @@ export class Recorder {
     const { plan } = this;
     this.rest = rest;
     const state = initialState(plan, rest, given);
+    this.state = state;
     this.memory = plan.usesMemory ? this.ofRest(REST_NAMES.memory) : null;
     this.table = plan.usesTable ? this.ofRest(REST_NAMES.table) : null;
     this.connectShadow(state);
@@ -127,10 +125,15 @@ export class Recorder {
   connectShadow(state) {
     const { plan } = this;
     const globals = Object.fromEntries(plan.unsteadyGlobals.map(index => [`global ${index}`, this.ofRest(REST_NAMES.global(index))]));
-    const miss = (/** @type {number} */ address, /** @type {number} */ count) =>
-      this.guarded(() => this.shadow?.miss(address >>> 0, count), undefined);
-    this.watch = native.exports(shadowBytes(plan, plan.usesMemory ? state.pages : 0, this.options.isHashing ?? false),
-      { js: { miss }, rest: globals });
+    const pages = plan.usesMemory ? state.pages : 0;
+    if (pages > MOST_PAGES) throw new Error(`the memory has ${pages} pages, and r3 takes ${MOST_PAGES}`);
+    /** @param {(shadow: Shadow, address: number, count: number) => void} step */
+    const ofShadow = step => (/** @type {number} */ address, /** @type {number} */ count) =>
+      this.guarded(() => step(/** @type {Shadow} */ (this.shadow), address >>> 0, count), undefined);
+    const js = { miss: ofShadow((shadow, address, count) => shadow.miss(address, count)),
+      over: ofShadow((shadow, address, count) => shadow.reads(address, count)), own: ofShadow((shadow, address) => shadow.own(address)),
+      ownForStores: ofShadow((shadow, address) => shadow.ownForStores(address)) };
+    this.watch = native.exports(shadowBytes(plan, pages, this.options.accesses ?? ACCESSES), { js, rest: globals });
     this.shadow = new Shadow(this.memory, this.watch.memory, (address, bytes) => {
       if (!this.isOver) this.log.write(address, bytes);
     });
@@ -161,8 +164,10 @@ export class Recorder {
 
   watchFunctions() {
     return { ...this.watch, entry: this.entries?.watch.entry, probe: () => this.unwinding.probe(),
-      reads: (/** @type {number} */ from, /** @type {number} */ count) =>
-        this.guarded(() => this.shadow?.reads(from >>> 0, count >>> 0), undefined),
+      copies: (/** @type {number} */ to, /** @type {number} */ from, /** @type {number} */ count) =>
+        this.guarded(() => this.shadow?.copies(to >>> 0, from >>> 0, count >>> 0), undefined),
+      fills: (/** @type {number} */ to, /** @type {number} */ value, /** @type {number} */ count) =>
+        this.guarded(() => this.shadow?.fills(to >>> 0, value, count >>> 0), undefined),
       grown: (/** @type {number} */ before) => this.grown(before) };
   }
 
@@ -184,10 +189,15 @@ export class Recorder {
     if (pages > 0) this.action(GROW, [pages]);
     if (this.entries?.isUnsteady) this.entries.changed();
     if (this.isOver) return;
+    if (this.memory !== null) {
+      for (let turns = this.shadow?.enter() ?? 0; turns > 0; turns--) this.kept[KEPT_NAMES.turned]();
+    }
     if (this.plan.unsteadyGlobals.length > 0 && this.watch.changed() !== 0) this.changedGlobals();
   }
 
+  /** Control goes from K to the host. */
   toHost() {
+    this.shadow?.leave();
     if (this.plan.unsteadyGlobals.length > 0) this.watch.note();
     if (this.log.crossings >= this.until) this.stop(`after ${this.until} crossings`);
   }
@@ -245,6 +255,7 @@ export class Recorder {
     this.over = over;
     this.isOver = true;
     this.log.close();
+    this.watch.off.value = 1;
   }
 
   /** Ends the record, and lets the program run on. @param {string} text */
@@ -283,7 +294,11 @@ export class Recorder {
       const count = plan.needs(index).floats.size > 0 ? kept[KEPT_NAMES.floats(slot)].value >>> 0 : 0;
       if (count > 0) floats.push([slot, count]);
     });
-    this.sink(jsonChunk(CHUNK.marks, { crossings: this.log.crossings, entered, floats }));
+    const used = plan.m.data.map(({ bytes }, place) => {
+      const offset = this.state?.offsets[place] ?? null;
+      return offset === null || this.memory === null ? [] : this.shadow?.used(offset, offset + bytes.length) ?? [];
+    });
+    this.sink(jsonChunk(CHUNK.marks, { crossings: this.log.crossings, entered, floats, used }));
   }
 
   /** Gives the sink what it does not have yet. */

@@ -2,12 +2,12 @@
  * The bodies of kept functions in K: M's instructions with the numbers of K. In K as it runs, loads, stores and calls by
  * the table are watched.
  */
-import { flat, s32, u32, vector } from '../../wasm/encoding.mjs';
+import { constant, flat, s32, u32, vector } from '../../wasm/encoding.mjs';
 import { PREFIX_BITS } from '../../wasm/instruction_names.mjs';
 import { readInstruction } from '../../wasm/instructions.mjs';
 import { bodyOf } from '../../wasm/module.mjs';
-import { F32, F64, I32, I64 } from '../../wasm/value_types.mjs';
-import { FLOAT_TYPES, OP, STORED } from './operations.mjs';
+import { F32, F64, I32, I64, isWide } from '../../wasm/value_types.mjs';
+import { BLOCK, FLOAT_TYPES, HASH_FACTOR, LOADED, LOADED_BYTES, OP, STORED, STORED_BYTES } from './operations.mjs';
 
 /** @typedef {import('../../wasm/module.mjs').Module} Module */
 /** @typedef {import('../../wasm/instructions.mjs').Instruction} Instruction */
@@ -29,14 +29,18 @@ import { FLOAT_TYPES, OP, STORED } from './operations.mjs';
  * @typedef {object} Watch
  * @property {number[]} load
  * @property {number[]} store
- * @property {number} copy
- * @property {number} fill
- * @property {number} reads
+ * @property {number} copies
+ * @property {number} fills
  * @property {number} grown
  * @property {number} entry
+ * @property {number} turn the global of the present turn
+ * @property {() => number} site a global for one more access
+ * @property {number | null} hash the global with a number of all that is loaded, for tests
  * @property {number} entered the global that says whether this function was entered
  * @property {number | null} floats the global that counts its float instructions
  */
+
+const AS_INTEGER = new Map([[F32, 0xbc], [F64, 0xbd]]);
 
 /** The further locals of a watched body: the operands of stores, copies and fills. */
 const FURTHER = [[3, I32], [1, I64], [1, F32], [1, F64]];
@@ -134,22 +138,45 @@ class WatchedSpelling extends Spelling {
     return [call(this.watch.entry), super.callIndirect(type)];
   }
 
-  /** The address of an access, with its offset. @param {number} offset @returns {Part} */
-  place(offset) {
-    return [get(this.address), offset === 0 ? [] : [OP.i32Const, s32(offset), 0x6a]];
+  /**
+   * Code that calls a watch where an access of so many bytes is not within the block that K owned when the site's global was
+   * set. The global has the block's address, and the turn above it. `args` are those before the turn.
+   * @param {number} offset
+   * @param {number} bytes
+   * @param {(address: Part) => Part} args
+   * @param {number} watch
+   * @returns {Part}
+   */
+  watched(offset, bytes, args, watch) {
+    const address = [get(this.address), offset === 0 ? [] : [OP.i32Const, s32(offset), 0x6a]];
+    const site = u32(this.watch.site());
+    const turn = [OP.globalGet, u32(this.watch.turn)];
+    const isOutside = [address, 0xad, turn, 0x84, OP.globalGet, site, 0x7d, OP.i64Const, s32(BLOCK - bytes), 0x56];
+    return [isOutside, OP.if, 0x40, args(address), turn, call(watch), OP.globalSet, site, OP.end];
+  }
+
+  /** @param {number} type @param {number} value @returns {Part} */
+  hashed(type, value) {
+    const { hash } = this.watch;
+    if (hash === null) return [];
+    const bits = [get(value), AS_INTEGER.get(type) ?? [], isWide(type) ? [] : 0xad];
+    return [OP.globalGet, u32(hash), bits, 0x85, constant(I64, HASH_FACTOR), 0x7e, OP.globalSet, u32(hash)];
   }
 
   /** @param {Instruction} item @returns {Part} */
   load(item) {
-    const watch = call(this.watch.load[item.op - OP.firstLoad]);
-    return [tee(this.address), super.load(item), this.place(item.offset ?? 0), watch];
+    const place = item.op - OP.firstLoad;
+    const value = this.values.get(LOADED[place]) ?? 0;
+    const watched = this.watched(item.offset ?? 0, LOADED_BYTES[place], address => [get(value), address], this.watch.load[place]);
+    return [tee(this.address), super.load(item), tee(value), watched, this.hashed(LOADED[place], value)];
   }
 
   /** @param {Instruction} item @returns {Part} */
   store(item) {
-    const value = this.values.get(STORED[item.op - OP.firstStore]) ?? 0;
-    const watch = call(this.watch.store[item.op - OP.firstStore]);
-    return [set(value), tee(this.address), get(value), super.store(item), this.place(item.offset ?? 0), get(value), watch];
+    const place = item.op - OP.firstStore;
+    const value = this.values.get(STORED[place]) ?? 0;
+    const watched = this.watched(item.offset ?? 0, STORED_BYTES[place], address => [address, get(value)], this.watch.store[place]);
+    return [set(value), tee(this.address), get(value), super.store(item), watched];
   }
 
   /** @returns {Part} */
@@ -157,13 +184,12 @@ class WatchedSpelling extends Spelling {
     return [super.grow(), call(this.watch.grown)];
   }
 
-  /** @param {number} op @returns {Part} */
+  /** What a copy or a fill does is known before it is done. @param {number} op @returns {Part} */
   range(op) {
     const { address, second, third, watch } = this;
     const operands = [get(address), get(second), get(third)];
-    const before = op === OP.memoryCopy ? [get(second), get(third), call(watch.reads)] : [];
-    const after = call(op === OP.memoryCopy ? watch.copy : watch.fill);
-    return [set(third), set(second), set(address), before, operands, super.range(op), operands, after];
+    const known = call(op === OP.memoryCopy ? watch.copies : watch.fills);
+    return [set(third), set(second), set(address), operands, known, operands, super.range(op)];
   }
 }
 

@@ -42,12 +42,12 @@ function elements(k, contents) {
   return runs(contents.firstEntries).map(([begin, list]) => [0, OP.i32Const, s32(begin), OP.end, vector(list.map(place))]);
 }
 
-/** @param {Trimmed} k @param {State} state @param {boolean} usesMemory @returns {Part[]} */
-function data(k, state, usesMemory) {
-  if (!usesMemory) return [];
+/** What K has used of the data segments. @param {Trimmed} k @param {State} state @param {[number, number][][]} used @returns {Part[]} */
+function data(k, state, used) {
   return k.plan.m.data.flatMap(({ bytes }, place) => {
-    const offset = state.offsets[place];
-    return offset === null || bytes.length === 0 ? [] : [[0, OP.i32Const, s32(offset), OP.end, u32(bytes.length), bytes]];
+    const offset = state.offsets[place] ?? 0;
+    return (used[place] ?? []).map(([begin, end]) =>
+      [0, OP.i32Const, s32(begin), OP.end, u32(end - begin), bytes.subarray(begin - offset, end - offset)]);
   });
 }
 
@@ -96,8 +96,9 @@ function bodies(k, types) {
  * @param {Trimmed} k
  * @param {State} state
  * @param {Contents} contents
+ * @param {[number, number][][]} used for each data segment, the runs of addresses that K has used
  */
-export function keptBytes(k, state, contents) {
+export function keptBytes(k, state, contents, used) {
   const { plan } = k;
   const types = new TypeList();
   const usesMemory = [...k.entered].some(index => plan.needs(index).memory) || contents.writtenBytes > 0 || contents.grows;
@@ -112,5 +113,5 @@ export function keptBytes(k, state, contents) {
     tables: usesTable ? [[FUNCREF, 0, u32(state.entries)]] : [],
     memories: usesMemory ? [limits({ min: state.pages, max: state.maximum })] : [],
     exports: exports(k, usesMemory, usesTable), elements: usesTable ? elements(k, contents) : [],
-    data: data(k, state, usesMemory), custom: [nameSection(names)] });
+    data: usesMemory ? data(k, state, used) : [], custom: [nameSection(names)] });
 }

@@ -8,7 +8,7 @@ import { constant, flat, s32, u32 } from '../../wasm/encoding.mjs';
 import { PREFIX_BITS } from '../../wasm/instruction_names.mjs';
 import { F32, F64, I32, I64, integerOf, isFloat, isWide } from '../../wasm/value_types.mjs';
 import { IMPORT_CALL, IMPORT_RETURN, LOG } from '../recorder/log_layout.mjs';
-import { LOADED, LOADED_BYTES, OP, STORED } from './operations.mjs';
+import { BLOCK, BLOCK_BITS, LOADED, LOADED_BYTES, OP, STORED, STORED_BYTES } from './operations.mjs';
 import { floatType } from './plan.mjs';
 import { LOAD_NAMES, STORE_NAMES } from './watched.mjs';
 
@@ -63,21 +63,77 @@ class Functions {
   }
 }
 
-/** Adds the functions for loads and stores. @param {Functions} functions @param {(now: Part, type: number) => Part} hashing */
-function addAccesses(functions, hashing) {
+/* The blocks of the shadow: each has a word with the turn, above the bits that say what is known of the block in it. */
+
+/** The shadow lies behind the words of all blocks that a memory of r3's may have. */
+export const MOST_PAGES = 4096;
+export const SHADOW_PAGES = MOST_PAGES * 4 >> BLOCK_BITS;
+const SHADOW = SHADOW_PAGES * 65536;
+/** Below the turn a word has so many bits. */
+export const STATE_BITS = 8;
+export const STATE = (1 << STATE_BITS) - 1;
+/** After so many accesses in a turn a block is owned: what it has is compared, and loads are not watched. */
+export const ACCESSES = 24;
+export const OWNED = STATE - 1;
+/** Stores are not watched either: what the block has is known anew when control goes to the host. */
+export const OWNED_FOR_STORES = STATE;
+
+const isLess = 0x49;
+const [SHIFT_LEFT, SHIFT_RIGHT, AND, OR_64, IF, ELSE, RETURN] = [0x74, 0x76, 0x71, 0x84, 0x04, 0x05, 0x0f];
+
+/** What a site is set to: the turn and the block's address. @param {number} address @param {number} turn @returns {Part[]} */
+const siteOf = (address, turn) => [get(turn), get(address), i32(-BLOCK), AND, 0xad, OR_64];
+
+/**
+ * The beginning of a function for an access, whose further locals are the block's word, its place, and the turn in it.
+ * Accesses over the end of a block go another way.
+ * @param {{ address: number, turn: number, bytes: number, over: Part, off: number }} access
+ * @returns {Part[]}
+ */
+function beginning({ address, turn, bytes, over, off }) {
+  const [word, place, now] = [3, 4, 5];
+  return [
+    [OP.globalGet, u32(off), IF, VOID_BLOCK, siteOf(address, turn), RETURN, OP.end],
+    bytes === 1 ? [] : [get(address), i32(BLOCK - 1), AND, i32(BLOCK - bytes), 0x4b, IF, VOID_BLOCK, over, OP.i64Const, 0, RETURN, OP.end],
+    [get(address), i32(BLOCK_BITS), SHIFT_RIGHT, i32(2), SHIFT_LEFT, OP.localTee, place, LOAD[I32], 2, 0, set(word)],
+    [get(turn), OP.i64Const, s32(32), 0x88, 0xa7, i32(STATE_BITS), SHIFT_LEFT, set(now)],
+    [get(word), i32(~STATE), AND, get(now), 0x47, IF, VOID_BLOCK, get(now), set(word), OP.end],
+  ];
+}
+
+/**
+ * The end: one more access, and no block for the site; or the block, which `own` makes K's first.
+ * @param {number} accesses
+ * @param {Part} own
+ * @param {Part} site
+ */
+const ending = (accesses, own, site) => [get(3), i32(STATE), AND, i32(accesses), isLess, IF, I64,
+  get(4), get(3), i32(1), I32_ADD, STORE[I32], 2, 0, OP.i64Const, 0, ELSE, own, site, OP.end];
+
+/**
+ * Adds the functions for loads and stores.
+ * @param {Functions} functions
+ * @param {{ miss: number, over: number, own: number, ownForStores: number }} js
+ * @param {number} off
+ * @param {number} accesses
+ */
+function addAccesses(functions, js, off, accesses) {
+  const locals = [1, 3, I32];
   LOAD_NAMES.forEach((text, place) => {
-    const type = LOADED[place];
-    const op = OP.firstLoad + place - (isFloat(type) ? 2 : 0);
-    const now = [get(0), asInteger(type)];
-    const noted = [get(1), op, 0, 0];
-    const miss = [0x04, VOID_BLOCK, get(1), i32(LOADED_BYTES[place]), call(0), OP.end];
-    functions.add(text, [type, I32], [type], [now, noted, notEqual(type), miss, hashing(now, type), get(0)]);
+    const [type, bytes] = [LOADED[place], LOADED_BYTES[place]];
+    const noted = [get(1), OP.firstLoad + place - (isFloat(type) ? 2 : 0), 0, u32(SHADOW)];
+    const isOwned = [get(3), i32(STATE), AND, i32(OWNED), 0x4f, IF, VOID_BLOCK, siteOf(1, 2), RETURN, OP.end];
+    const compared = [get(0), asInteger(type), noted, notEqual(type), IF, VOID_BLOCK, get(1), i32(bytes), call(js.miss), OP.end];
+    const begin = beginning({ address: 1, turn: 2, bytes, over: [get(1), i32(bytes), call(js.over)], off });
+    functions.add(text, [type, I32, I64], [I64], [begin, isOwned, compared, ending(accesses, [get(1), call(js.own)], siteOf(1, 2))], locals);
   });
   STORE_NAMES.forEach((text, place) => {
-    functions.add(text, [I32, STORED[place]], [], [get(0), get(1), OP.firstStore + place, 0, 0]);
+    const [type, bytes] = [STORED[place], STORED_BYTES[place]];
+    const known = [get(0), get(1), OP.firstStore + place, 0, u32(SHADOW)];
+    const isOwned = [get(3), i32(STATE), AND, i32(OWNED_FOR_STORES), 0x46, IF, VOID_BLOCK, siteOf(0, 2), RETURN, OP.end];
+    const begin = beginning({ address: 0, turn: 2, bytes, over: known, off });
+    functions.add(text, [I32, type, I64], [I64], [begin, isOwned, known, ending(accesses, [get(0), call(js.ownForStores)], siteOf(0, 2))], locals);
   });
-  functions.add('copy', [I32, I32, I32], [], [get(0), get(1), get(2), 0xfc, 10, 0, 0]);
-  functions.add('fill', [I32, I32, I32], [], [get(0), get(1), get(2), 0xfc, 11, 0]);
 }
 
 /** Adds what compares globals: numbers `0..` are imported, and their shadows follow. @param {Functions} functions @param {Plan} p */
@@ -97,31 +153,24 @@ function addGlobals(functions, p) {
   return unsteadyGlobals.map(index => [integerOf(type(index)), 1, constant(integerOf(type(index)), 0n), OP.end]);
 }
 
-/** A number of all that is loaded, in order, for tests. */
-export const HASH_FACTOR = 0x100000001b3n;
-
 /**
- * The shadow of memory and globals. With `isHashing` it exports `hash`, a number of all that K has loaded.
+ * The shadow of memory and globals. `off` is set where nothing is watched any more.
  * @param {Plan} p
  * @param {number} pages
- * @param {boolean} isHashing
+ * @param {number} accesses after how many in a turn a block is owned
  */
-export function shadowBytes(p, pages, isHashing) {
+export function shadowBytes(p, pages, accesses) {
   const functions = new Functions();
-  functions.importFunction('js', 'miss', [I32, I32], []);
+  const js = { miss: functions.importFunction('js', 'miss', [I32, I32], []), over: functions.importFunction('js', 'over', [I32, I32], []),
+    own: functions.importFunction('js', 'own', [I32], []), ownForStores: functions.importFunction('js', 'ownForStores', [I32], []) };
   for (const index of p.unsteadyGlobals) {
     functions.imports.push(importItem('rest', `global ${index}`, KIND.global, [p.m.globals[index].type, 1]));
   }
-  const hash = 2 * p.unsteadyGlobals.length;
-  addAccesses(functions, (now, type) => (isHashing ? [OP.globalGet, u32(hash), now, isWide(type) ? [] : 0xad, 0x85,
-    constant(I64, HASH_FACTOR), 0x7e, OP.globalSet, u32(hash)] : []));
+  const off = 2 * p.unsteadyGlobals.length;
+  addAccesses(functions, js, off, accesses);
   const globals = addGlobals(functions, p);
-  functions.exports.push(exportItem('memory', KIND.memory, 0));
-  if (isHashing) {
-    globals.push([I64, 1, constant(I64, 0n), OP.end]);
-    functions.exports.push(exportItem('hash', KIND.global, hash));
-  }
-  return functions.bytes({ memories: [[0, u32(pages)]], globals });
+  functions.exports.push(exportItem('memory', KIND.memory, 0), exportItem('off', KIND.global, off));
+  return functions.bytes({ memories: [[0, u32(SHADOW_PAGES + pages)]], globals: [...globals, [I32, 1, i32(0), OP.end]] });
 }
 
 /**
