@@ -23,6 +23,7 @@ import memory
 import module_answers
 import pairs
 import prefixes
+import program_choices
 import program_refusals
 import programs
 import projections
@@ -39,7 +40,7 @@ CHAINS = [
     [("examples", examples.checks), ("examples in other engines", engines.checks)],
     [("captured hosts", captures.checks)],
     [("random splits", splits.checks)],
-    [("programs of Node.js", programs.checks)],
+    [("programs of Node.js", programs.checks), ("options of captures", program_choices.checks)],
     [("programs of pages", programs.pages), ("captures that are refused", program_refusals.checks)],
     [("files that are cut", prefixes.checks)],
     [("two modules", pairs.checks)],
