@@ -8,8 +8,8 @@ CHANNELS = {0: 1, 2: 3, 4: 2, 6: 4}
 def chunks(data):
     at = 8
     while at < len(data):
-        length, kind = struct.unpack(">I4s", data[at:at + 8])
-        yield kind, data[at + 8:at + 8 + length]
+        length, kind = struct.unpack(">I4s", data[at : at + 8])
+        yield kind, data[at + 8 : at + 8 + length]
         at += length + 12
 
 
@@ -51,6 +51,6 @@ def pixels(data, rows):
     above, lines = bytes(length), []
     for row in range(rows):
         begin = row * (length + 1)
-        above = unfiltered(packed[begin], packed[begin + 1:begin + 1 + length], above, width)
-        lines.append([tuple(above[place:place + width]) for place in range(0, length, width)])
+        above = unfiltered(packed[begin], packed[begin + 1 : begin + 1 + length], above, width)
+        lines.append([tuple(above[place : place + width]) for place in range(0, length, width)])
     return lines

@@ -37,17 +37,29 @@ def arguments(folder):
 def run_again(group, name, **how):
     """Captures the program that reads, with standard input by a pipe or by a file."""
     folder = group.path(name)
-    ran = subprocess.run([CAPTURE, "-o", folder, "reads.mjs"], cwd=group.room, env=environment(group), stdout=subprocess.PIPE,
-                         stderr=subprocess.PIPE, check=False, **how)
+    ran = subprocess.run(
+        [CAPTURE, "-o", folder, "reads.mjs"],
+        cwd=group.room,
+        env=environment(group),
+        stdout=subprocess.PIPE,
+        stderr=subprocess.PIPE,
+        check=False,
+        **how,
+    )
     group.expect(ran.returncode == 0, f"{name}: the capture ends with status 0: {ran.stderr[-300:]!r}")
     if ran.returncode != 0:
         return
     lines = ran.stdout.decode().splitlines()
     group.expect(lines[:1] == ["zero"] and len(lines) == 14, f"{name}: the program is heard once: {lines}")
     report = json.loads(contents(os.path.join(folder, "report.json")))
-    group.expect(report["runs"]["count"] == 2 and report["functions"]["kept"] == ["good"], f"{name}: it is run again without bad")
+    group.expect(
+        report["runs"]["count"] == 2 and report["functions"]["kept"] == ["good"], f"{name}: it is run again without bad"
+    )
     given = arguments(folder)
-    group.expect([int(line) for line in lines[1:]] == given, f"{name}: the second run reads what the first one did, {lines[1:]} and not {given}")
+    group.expect(
+        [int(line) for line in lines[1:]] == given,
+        f"{name}: the second run reads what the first one did, {lines[1:]} and not {given}",
+    )
     checks_of_folder(group, name, folder, report, "returned")
 
 
@@ -72,11 +84,17 @@ def functions(group):
     """Which functions of features.wasm are kept: func 5 is called by down, and func 1 and func 2 by the table."""
     program = "features.mjs"
     every = kept(group, "all that r3 takes", [program])
-    group.expect({"applied", "digits"} < set(every) and not {"sum", "down", "put", "swap"} & set(every), f"all that r3 takes is kept: {every}")
+    group.expect(
+        {"applied", "digits"} < set(every) and not {"sum", "down", "put", "swap"} & set(every),
+        f"all that r3 takes is kept: {every}",
+    )
     group.expect(kept(group, "keep", ["--keep", "applied", program]) == ["applied"], "--keep keeps a function alone")
     under = kept(group, "under", ["--under", "applied", program])
     group.expect(set(under) == {"applied", "func 1", "func 2"}, f"--under keeps what a function reaches: {under}")
-    group.expect(set(kept(group, "drop", ["--drop", "applied", program])) == set(every) - {"applied"}, "--drop leaves a function out")
+    group.expect(
+        set(kept(group, "drop", ["--drop", "applied", program])) == set(every) - {"applied"},
+        "--drop leaves a function out",
+    )
 
 
 def floats(group):
@@ -86,7 +104,10 @@ def floats(group):
         if report is None:
             continue
         found = [name for name in report["crossings"]["out"] if name.startswith("f64.")]
-        group.expect(bool(found) == are_calls, f"--floats {choice}: float instructions are {'' if are_calls else 'not '}calls: {found}")
+        group.expect(
+            bool(found) == are_calls,
+            f"--floats {choice}: float instructions are {'' if are_calls else 'not '}calls: {found}",
+        )
         checks_of_folder(group, f"floats {choice}", folder, report, "returned")
 
 

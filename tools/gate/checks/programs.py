@@ -51,7 +51,9 @@ def environment(group):
 
 def run(group, command, **how):
     settings = {"cwd": group.room, "stdin": subprocess.DEVNULL, "env": environment(group), **how}
-    ran = subprocess.run(command, stdout=subprocess.PIPE, stderr=subprocess.PIPE, timeout=6 * LIMIT, check=False, **settings)
+    ran = subprocess.run(
+        command, stdout=subprocess.PIPE, stderr=subprocess.PIPE, timeout=6 * LIMIT, check=False, **settings
+    )
     return Answer(ran.returncode, ran.stdout, ran.stderr)
 
 
@@ -78,7 +80,11 @@ def checks_of_folder(group, name, folder, report, end):
     ways = report["crossings"]
     seen = (sum(ways["in"].values()), sum(ways["out"].values()))
     r3_has = (counts["host-call"], counts["import-call"])
-    group.expect(history.status == 0 and seen == r3_has, f"{name}: the history has the calls of the report, {r3_has} and not {seen}", history)
+    group.expect(
+        history.status == 0 and seen == r3_has,
+        f"{name}: the history has the calls of the report, {r3_has} and not {seen}",
+        history,
+    )
     group.expect(seen[0] > 0 and bool(report["functions"]["entered"]), f"{name}: functions of the module ran")
     compared = report["comparison"]
     group.expect(compared is not None and compared["agrees"], f"{name}: the report has a comparison")
@@ -89,7 +95,9 @@ def checks_of_folder(group, name, folder, report, end):
     is_end = end == "cut" or returns == (end == "returned")
     group.expect(shown.status == 0 and is_end, f"{name}: r3 replays it to its end", shown)
     ran = run(group, ["node", "-e", RUN_REPLAY, replay])
-    group.expect(ran.out.decode().strip() == ("returned" if returns else "trapped"), f"{name}: V8 replays it to its end", ran)
+    group.expect(
+        ran.out.decode().strip() == ("returned" if returns else "trapped"), f"{name}: V8 replays it to its end", ran
+    )
     text = contents(os.path.join(folder, "report.txt")).decode()
     group.expect("module 0 taken" in text or " taken: " in text, f"{name}: report.txt says which module is taken")
 
@@ -121,7 +129,9 @@ def checks(group):
     for program in IN_NODE:
         answer, folder, report = captured(group, program.name, program.words)
         plain = run(group, plain_command(program.words))
-        group.expect(plain.status == program.status and plain.out != b"", f"{program.name}: it runs without a capture", plain)
+        group.expect(
+            plain.status == program.status and plain.out != b"", f"{program.name}: it runs without a capture", plain
+        )
         group.expect(answer.out == plain.out, f"{program.name}: it prints what it prints without a capture", answer)
         if report is None:
             continue
@@ -145,7 +155,7 @@ def boards(size, count):
     for _ in range(size * size):
         seed = (6364136223846793005 * seed + 1) % 2**64
         board.append(bool(seed >> 41 & 1))
-    board = [board[row * size:(row + 1) * size] for row in range(size)]
+    board = [board[row * size : (row + 1) * size] for row in range(size)]
     for _ in range(count):
         board = next_board(board)
         yield board
@@ -157,7 +167,9 @@ def life_checks(group):
     answer, folder, report = captured(group, name, ["life.html"])
     lines = [line for line in answer.err.decode().splitlines() if line.startswith("page: ")]
     alive = [sum(map(sum, board)) for board in boards(size, frames)]
-    expected = [f"page: frame {place + 1}: {count} alive, {count / size / size:.3f} of all" for place, count in enumerate(alive)]
+    expected = [
+        f"page: frame {place + 1}: {count} alive, {count / size / size:.3f} of all" for place, count in enumerate(alive)
+    ]
     group.expect(lines == expected, f"{name}: it prints what life.c says, {expected[-1]} and not {lines[-1:]}")
     if report is None:
         return
