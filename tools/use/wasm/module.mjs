@@ -46,13 +46,19 @@ import { Reader, UnknownFormat } from './reader.mjs';
  * @property {Map<number, string>} names the names of functions that the section `name` has
  */
 
-/** @param {Reader} reader @returns {Limits} */
+/**
+ * @param {Reader} reader
+ * @returns {Limits}
+ */
 function limits(reader) {
   const flags = reader.byte();
   const min = reader.u32();
   return { flags, min, max: flags & 1 ? reader.u32() : null };
 }
-/** @param {Reader} reader @returns {FunctionType} */
+/**
+ * @param {Reader} reader
+ * @returns {FunctionType}
+ */
 function functionType(reader) {
   const form = reader.byte();
   if (form !== 0x60) throw new UnknownFormat(`a type of the form 0x${form.toString(16)}`);
@@ -64,18 +70,31 @@ function valueType(reader) {
   if (byte === 0x63 || byte === 0x64) throw new UnknownFormat('a typed reference');
   return byte;
 }
-/** @param {Reader} reader @returns {Table} */
+/**
+ * @param {Reader} reader
+ * @returns {Table}
+ */
 const table = reader => ({ type: valueType(reader), ...limits(reader) });
-/** @param {Reader} reader @returns {Global} */
+/**
+ * @param {Reader} reader
+ * @returns {Global}
+ */
 const globalType = reader => ({ type: valueType(reader), mutable: reader.byte() === 1 });
-/** @param {Reader} reader @returns {Constant} */
+/**
+ * @param {Reader} reader
+ * @returns {Constant}
+ */
 function constantExpression(reader) {
   const begin = reader.at;
   const all = [];
   for (let item = readInstruction(reader); item.op !== 0x0b; item = readInstruction(reader)) all.push(item);
   return { bytes: reader.bytes.subarray(begin, reader.at), all, only: all.length === 1 ? all[0] : null };
 }
-/** @param {Reader} reader @param {number[]} counts how many imports of each kind there are so far @returns {Import} */
+/**
+ * @param {Reader} reader
+ * @param {number[]} counts how many imports of each kind there are so far
+ * @returns {Import}
+ */
 function importItem(reader, counts) {
   const [module, name, kind] = [reader.name(), reader.name(), reader.byte()];
   const index = counts[kind]++;
@@ -87,7 +106,10 @@ function importItem(reader, counts) {
   reader.byte();
   return { module, name, kind, index, type: reader.u32() };
 }
-/** @param {Reader} reader @returns {Element} */
+/**
+ * @param {Reader} reader
+ * @returns {Element}
+ */
 function element(reader) {
   const flags = reader.u32();
   const isActive = (flags & 1) === 0;
@@ -101,14 +123,20 @@ function element(reader) {
   const functions = reader.list(() => (flags & 4 ? expression() : reader.u32()));
   return { table: tableIndex, offset, functions, isDeclared: (flags & 3) === 3 };
 }
-/** @param {Reader} reader @returns {Data} */
+/**
+ * @param {Reader} reader
+ * @returns {Data}
+ */
 function dataSegment(reader) {
   const flags = reader.u32();
   const memory = flags === 2 ? reader.u32() : 0;
   const offset = flags === 1 ? null : constantExpression(reader);
   return { memory, offset, bytes: reader.take(reader.u32()) };
 }
-/** @param {Reader} reader @returns {[number, number]} */
+/**
+ * @param {Reader} reader
+ * @returns {[number, number]}
+ */
 function body(reader) {
   const size = reader.u32();
   reader.take(size);

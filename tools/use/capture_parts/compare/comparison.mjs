@@ -48,7 +48,10 @@ class Lines {
     return true;
   }
 
-  /** The run has ended. @param {boolean} isTrap */
+  /**
+   * The run has ended.
+   * @param {boolean} isTrap
+   */
   end(isTrap, /** @type {Capture} */ made) {
     if (this.difference !== null) return;
     const { value, done } = this.seen.next();
@@ -59,7 +62,10 @@ class Lines {
   }
 }
 
-/** Whether the run for r3 ends by a trap: one of K, or one of the host in place of an answer. @param {Capture} made */
+/**
+ * Whether the run for r3 ends by a trap: one of K, or one of the host in place of an answer.
+ * @param {Capture} made
+ */
 const endsByTrap = made => made.endsByTrap;
 
 /**
@@ -82,7 +88,12 @@ async function byCommand(r3, by, words, made) {
 
 const WORDS = new Map([[HOST_CALL, 'host-call'], [HOST_RETURN, 'host-return'], [IMPORT_CALL, 'import-call'], [IMPORT_RETURN, 'import-return']]);
 
-/** In V8, with the border of the replay module observed. @param {string} replay @param {Capture} made @returns {Comparison} */
+/**
+ * In V8, with the border of the replay module observed.
+ * @param {string} replay
+ * @param {Capture} made
+ * @returns {Comparison}
+ */
 function byEngine(replay, made) {
   const lines = new Lines(made.outline());
   const end = runObserved(fs.readFileSync(replay), made.counts, (kind, number, types, values) => {

@@ -21,7 +21,11 @@ const OBSERVERS = 'r3:observers';
 
 /** What is appended to a replay module: types, functions with their bodies, and the observers that they call. */
 class Observed {
-  /** @param {Module} m @param {number} imports @param {number} functions */
+  /**
+   * @param {Module} m
+   * @param {number} imports
+   * @param {number} functions
+   */
   constructor(m, imports, functions) {
     this.m = m;
     this.imports = imports;
@@ -36,12 +40,23 @@ class Observed {
     this.hostCalls = new Map();
   }
 
-  /** The number of a function that is added. @param {number} type @param {Part} body */
+  /**
+   * The number of a function that is added.
+   * @param {number} type
+   * @param {Part} body
+   */
   add(type, body) {
     return this.m.functions.length + this.added.push({ type, body }) - 1;
   }
 
-  /** Code that reports values in locals from `first` on. @param {number} kind @param {number} number @param {number[]} types @param {number} first @returns {Part[]} */
+  /**
+   * Code that reports values in locals from `first` on.
+   * @param {number} kind
+   * @param {number} number
+   * @param {number[]} types
+   * @param {number} first
+   * @returns {Part[]}
+   */
   reporting(kind, number, types, first) {
     this.observers.push({ kind, number, types });
     this.types.push({ params: types, results: [] });
@@ -50,7 +65,13 @@ class Observed {
       OP.callIndirect, u32(typeIndex), u32(this.m.tables.length)];
   }
 
-  /** A body that reports, calls a function, and reports. @param {[number, number]} kinds @param {number} number @param {number} target @returns {Part} */
+  /**
+   * A body that reports, calls a function, and reports.
+   * @param {[number, number]} kinds
+   * @param {number} number
+   * @param {number} target
+   * @returns {Part}
+   */
   body(kinds, number, target) {
     const { params, results } = this.m.functions[number];
     const keep = results.map((_, place) => [OP.localSet, u32(params.length + place)]);
@@ -60,7 +81,10 @@ class Observed {
       this.reporting(kinds[1], number, results, params.length), give, OP.end];
   }
 
-  /** The function that reports a call by the host. @param {number} number */
+  /**
+   * The function that reports a call by the host.
+   * @param {number} number
+   */
   hostCall(number) {
     const found = this.hostCalls.get(number);
     if (found !== undefined) return found;
@@ -69,7 +93,11 @@ class Observed {
     return made;
   }
 
-  /** Whether a call is one of the host's: from its own code to a function of the module. @param {number} from @param {number} to */
+  /**
+   * Whether a call is one of the host's: from its own code to a function of the module.
+   * @param {number} from
+   * @param {number} to
+   */
   isHostCall(from, to) {
     const behind = this.imports + this.functions;
     return from >= behind && to >= this.imports && to < behind;
@@ -87,7 +115,10 @@ class Observed {
     return [...old, ...this.added.map(({ body }) => body)].map(sized);
   }
 
-  /** @param {number} index @returns {Part} */
+  /**
+   * @param {number} index
+   * @returns {Part}
+   */
   hostBody(index) {
     const { reader } = bodyOf(this.m, index);
     const [begin] = this.m.bodies[index];
@@ -128,7 +159,13 @@ class Observed {
   }
 }
 
-/** @param {Uint8Array} bytes @param {number} id @param {number} begin @param {number} end @param {Part[]} items */
+/**
+ * @param {Uint8Array} bytes
+ * @param {number} id
+ * @param {number} begin
+ * @param {number} end
+ * @param {Part[]} items
+ */
 function lengthened(bytes, id, begin, end, items) {
   const reader = new Reader(bytes, begin, end);
   const count = reader.u32();

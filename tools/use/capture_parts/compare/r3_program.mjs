@@ -9,7 +9,13 @@ const MOST_OUTPUT = 1 << 16;
 
 /** @typedef {{ status: number, line: string }} Outcome the status, and the line of standard error */
 
-/** A call whose output goes to a file. @param {string} r3 @param {string[]} words @param {string} file @returns {Outcome} */
+/**
+ * A call whose output goes to a file.
+ * @param {string} r3
+ * @param {string[]} words
+ * @param {string} file
+ * @returns {Outcome}
+ */
 export function outputTo(r3, words, file) {
   const output = fs.openSync(file, 'w');
   try {
@@ -38,8 +44,8 @@ export const isTaken = (r3, file) => outputTo(r3, ['instrument', file], '/dev/nu
 export async function outputLines(r3, words, take) {
   const child = spawn(r3, words, { stdio: ['ignore', 'pipe', 'pipe'] });
   let [left, line, wantsMore] = ['', '', true];
-  child.stderr.setEncoding('utf8').on('data', text => { line += text; });
-  child.stdout.setEncoding('latin1').on('data', text => {
+  child.stderr.setEncoding('utf8').on('data', (/** @type {string} */ text) => { line += text; });
+  child.stdout.setEncoding('latin1').on('data', (/** @type {string} */ text) => {
     if (!wantsMore) return;
     const pieces = (left + text).split('\n');
     left = pieces.pop() ?? '';
@@ -48,7 +54,7 @@ export async function outputLines(r3, words, take) {
   });
   const status = await new Promise((resolve, reject) => {
     child.on('error', reject);
-    child.on('close', code => resolve(code ?? -1));
+    child.on('close', (/** @type {number | null} */ code) => resolve(code ?? -1));
   });
   return { status: wantsMore ? status : STATUS.done, line: line.trim() };
 }

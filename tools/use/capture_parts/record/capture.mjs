@@ -21,7 +21,11 @@ const MOST_CROSSINGS = 2200000;
  * @property {string} text
  */
 
-/** @param {Record} record @param {Events} events @returns {Ending} */
+/**
+ * @param {Record} record
+ * @param {Events} events
+ * @returns {Ending}
+ */
 function ending({ end, plan, until }, events) {
   const isCut = events.end < events.record.words.length;
   if (end === null) return { kind: 'cut', text: 'the program was ended from outside' };
@@ -33,7 +37,10 @@ function ending({ end, plan, until }, events) {
   return { kind: over.by === 'exception' ? 'host trap' : 'cut', text };
 }
 
-/** @param {import('../split/plan.mjs').Plan} plan @param {number} place */
+/**
+ * @param {import('../split/plan.mjs').Plan} plan
+ * @param {number} place
+ */
 function calleeName(plan, place) {
   const { callees, floats, names } = plan;
   if (place < callees.length) return names[callees[place]];
@@ -41,10 +48,18 @@ function calleeName(plan, place) {
   return `a function of the host's own (${place - callees.length - floats.length})`;
 }
 
-/** Names with counts, the largest first. @param {[string, number][]} list */
+/**
+ * Names with counts, the largest first.
+ * @param {[string, number][]} list
+ */
 const sorted = list => list.sort(([, one], [, other]) => other - one);
 
-/** What a report says, by names. @param {Record} record @param {Contents} contents @param {Events} events */
+/**
+ * What a report says, by names.
+ * @param {Record} record
+ * @param {Contents} contents
+ * @param {Events} events
+ */
 function report(record, contents, events) {
   const { plan, entered, floatCounts, end } = record;
   const name = (/** @type {number} */ slot) => plan.names[plan.kept[slot]];
@@ -64,7 +79,11 @@ function report(record, contents, events) {
   };
 }
 
-/** @param {Events} events @param {Contents} contents @param {boolean} isWhole */
+/**
+ * @param {Events} events
+ * @param {Contents} contents
+ * @param {boolean} isWhole
+ */
 function viewOf(events, contents, isWhole) {
   if (!isWhole) return new KeptView(events, contents);
   try {
@@ -82,10 +101,10 @@ function viewOf(events, contents, isWhole) {
  * @param {Record} record
  * @param {{ whole?: boolean }} [options]
  */
-export function captureOf(record, { whole = false } = {}) {
+export function captureOf(record, options = {}) {
   const events = new Events(record);
   const contents = contentsOf(events);
-  const found = viewOf(events, contents, whole);
+  const found = viewOf(events, contents, options.whole ?? false);
   const view = 'view' in found ? found.view : found;
   const told = report(record, contents, events);
   const isTooLong = told.crossings > MOST_CROSSINGS;

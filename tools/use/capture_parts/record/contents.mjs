@@ -17,10 +17,16 @@ import { ACTION, ENTRY, FIRST_ENTRY, GLOBAL, GROW, HOST_CALL, IMPORT_CALL, OTHER
  * @property {boolean} grows whether the host grows the memory
  */
 
-/** @param {Map<number, number>} counts @param {number} key */
+/**
+ * @param {Map<number, number>} counts
+ * @param {number} key
+ */
 const add = (counts, key) => counts.set(key, (counts.get(key) ?? 0) + 1);
 
-/** @param {Events} events @returns {Contents} */
+/**
+ * @param {Events} events
+ * @returns {Contents}
+ */
 export function contentsOf(events) {
   const found = { hostCalls: new Map(), importCalls: new Map(), firstEntries: new Map(), entryFunctions: new Set(), setFunctions: new Set(), hasOther: false,
     setGlobals: new Set(), writtenBytes: 0, grows: false };

@@ -27,6 +27,9 @@ export class Events {
     this.importTypes = calleeTypes(plan);
     this.wide = new BigInt64Array(1);
     this.pair = new Int32Array(this.wide.buffer);
+    /** How many calls are open at the end. */
+    this.depth = 0;
+    /** Where the events end, in words. */
     this.end = this.lastPoint();
   }
 
@@ -35,13 +38,20 @@ export class Events {
     return this.depth > 0;
   }
 
-  /** The types of the values of a crossing. @param {number} kind @param {number} number */
+  /**
+   * The types of the values of a crossing.
+   * @param {number} kind
+   * @param {number} number
+   */
   types(kind, number) {
     const type = kind <= HOST_RETURN ? this.hostTypes[number] : this.importTypes[number];
     return kind === HOST_CALL || kind === IMPORT_CALL ? type.params : type.results;
   }
 
-  /** How many words an event has, with its first one. @param {number} at */
+  /**
+   * How many words an event has, with its first one.
+   * @param {number} at
+   */
   length(at) {
     const { words } = this.record;
     const [kind, number] = [words[at] & 7, words[at] >>> 3];
@@ -58,7 +68,6 @@ export class Events {
     const { words, end, until } = this.record;
     const isWhole = end !== null && ['exception', 'trap', undefined].includes(end.over?.by);
     let [point, calls, depth] = [0, 0, 0];
-    this.depth = 0;
     for (let at = 0; at < words.length && (until === null || calls < until);) {
       const kind = words[at] & 7;
       if (kind === ACTION && words[at] >>> 3 === FOREIGN) this.addForeign(at);
@@ -104,7 +113,10 @@ export class Events {
     }
   }
 
-  /** @param {number[]} types @param {number} begin */
+  /**
+   * @param {number[]} types
+   * @param {number} begin
+   */
   values(types, begin) {
     const { words } = this.record;
     let at = begin;

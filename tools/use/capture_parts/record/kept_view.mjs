@@ -9,12 +9,18 @@ import { scriptValue } from './values.mjs';
 /** @typedef {import('./contents.mjs').Contents} Contents */
 /** @typedef {import('./script.mjs').View} View */
 
-/** The name of a function of the host's own. @param {number} number */
+/**
+ * The name of a function of the host's own.
+ * @param {number} number
+ */
 const foreignName = number => `the host's function ${number}`;
 
 /** @implements {View} */
 export class KeptView {
-  /** @param {Events} events @param {Contents} contents */
+  /**
+   * @param {Events} events
+   * @param {Contents} contents
+   */
   constructor(events, contents) {
     const { plan, entered, state, used } = events.record;
     this.plan = plan;
@@ -49,7 +55,10 @@ export class KeptView {
     return `"call":${JSON.stringify(this.trimmed.functionNames.get(this.plan.kept[slot]))}`;
   }
 
-  /** The two names of an import or a function of the host's own. @param {number} place */
+  /**
+   * The two names of an import or a function of the host's own.
+   * @param {number} place
+   */
   importNames(place) {
     if (place >= this.firstForeign) return ['foreign', foreignName(place - this.firstForeign)];
     return this.trimmed.importNames[this.placeInKept(place)];
@@ -63,7 +72,12 @@ export class KeptView {
     return found ?? NaN;
   }
 
-  /** The result of a callee, as parts of a response. @param {number} place @param {number[]} types @param {(number | bigint)[]} values */
+  /**
+   * The result of a callee, as parts of a response.
+   * @param {number} place
+   * @param {number[]} types
+   * @param {(number | bigint)[]} values
+   */
   response(place, types, values) {
     if (types.length < 2) return { actions: [], result: types.length === 0 ? '' : `"return":${scriptValue(types[0], values[0])}` };
     const actions = types.map((type, index) => {
@@ -73,12 +87,19 @@ export class KeptView {
     return { actions, result: '' };
   }
 
-  /** @param {number} index @param {string} value */
+  /**
+   * @param {number} index
+   * @param {string} value
+   */
   setGlobal(index, value) {
     return `{"set_global":${JSON.stringify(this.trimmed.globalNames.get(index))},"value":${value}}`;
   }
 
-  /** @param {number} place @param {number} index @param {boolean} isFirst as instantiation has left it */
+  /**
+   * @param {number} place
+   * @param {number} index
+   * @param {boolean} isFirst as instantiation has left it
+   */
   setEntry(place, index, isFirst) {
     if (isFirst && index > FIRST_FOREIGN && index !== NO_FUNCTION) return null;
     return `{"set_table":${place},"func":${JSON.stringify(this.entryName(index))}}`;
@@ -91,7 +112,10 @@ export class KeptView {
     return index <= FIRST_FOREIGN ? foreignName(FIRST_FOREIGN - index) : this.trimmed.functionNames.get(index);
   }
 
-  /** The number of a function of K in a history: those of the host's own are counted between imports and others. @param {number} slot */
+  /**
+   * The number of a function of K in a history: those of the host's own are counted between imports and others.
+   * @param {number} slot
+   */
   hostNumber(slot) {
     return (this.trimmed.places.get(this.plan.kept[slot]) ?? NaN) + this.foreign.length;
   }
@@ -101,7 +125,11 @@ export class KeptView {
     return place >= this.firstForeign ? this.trimmed.imports + place - this.firstForeign : this.placeInKept(place);
   }
 
-  /** The results that a history shows for a callee. @param {number} place @param {number[]} types */
+  /**
+   * The results that a history shows for a callee.
+   * @param {number} place
+   * @param {number[]} types
+   */
   shownResults(place, types) {
     return types.length > 1 ? [] : types;
   }

@@ -20,10 +20,17 @@ const CUT = 0.5;
  * @property {string[]} why
  */
 
-/** A name of a function that stands for it alone. @param {number} index */
+/**
+ * A name of a function that stands for it alone.
+ * @param {number} index
+ */
 const numbered = index => `func ${index}`;
 
-/** The functions that exceptions or traps have ended, and those with many floats. @param {Capture} made @param {Choice} choice */
+/**
+ * The functions that exceptions or traps have ended, and those with many floats.
+ * @param {Capture} made
+ * @param {Choice} choice
+ */
 function unfit({ record: { plan, end, floatCounts } }, choice) {
   const stale = new Map((end?.stale ?? []).map(index => [index, 'an exception or a trap ends it, and the program goes on']));
   const isFew = (choice.floats ?? 'few') === 'few';
@@ -55,10 +62,26 @@ function atBusyBorders({ record: { plan }, contents, report }) {
   return found;
 }
 
-/** @param {Capture} made @param {Choice} choice @param {Map<number, string>} functions @returns {Next} */
+/**
+ * @param {Capture} made
+ * @param {Choice} choice
+ * @param {Map<number, string>} functions
+ * @returns {Next}
+ */
 function without({ record: { plan, until } }, choice, functions) {
   return { choice: { ...choice, drop: [...choice.drop ?? [], ...[...functions.keys()].map(numbered)] }, until, isRun: true,
     why: [...functions].map(([index, why]) => `${plan.names[index]} is left out: ${why}`) };
+}
+
+/**
+ * The function of M that r3 names where it does not take K.
+ * @param {Capture} made
+ * @param {string} line
+ */
+function refusedFunction({ record: { plan }, trimmed }, line) {
+  const number = Number(/\bfunction (\d+)/.exec(line)?.[1] ?? NaN);
+  const found = [...trimmed?.places ?? []].find(([index, place]) => place === number && plan.slots.has(index));
+  return new Map(found === undefined ? [] : [/** @type {[number, string]} */ ([found[0], `r3 does not take it: ${line}`])]);
 }
 
 /**
@@ -66,11 +89,13 @@ function without({ record: { plan, until } }, choice, functions) {
  * which `--fit` wants a cure: `script`, `weight` or `turns`.
  * @param {Capture} made
  * @param {Choice} choice
- * @param {{ passed?: 'script' | 'weight' | 'turns' | null }} [limits]
+ * @param {{ passed?: 'script' | 'weight' | 'turns' | null, refusal?: string | null }} [limits] `refusal` is r3's line where it
+ *   does not take the module
  * @returns {Next | null}
  */
-export function nextChoice(made, choice, { passed = null } = {}) {
-  const functions = unfit(made, choice);
+export function nextChoice(made, choice, limits = {}) {
+  const passed = limits.passed ?? null;
+  const functions = new Map([...unfit(made, choice), ...refusedFunction(made, limits.refusal ?? '')]);
   if (functions.size > 0) return without(made, choice, functions);
   if (passed === null) return null;
   const busy = passed === 'turns' ? new Map() : atBusyBorders(made);

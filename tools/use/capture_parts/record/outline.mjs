@@ -8,7 +8,10 @@ import { historyValue } from './values.mjs';
 
 const WORDS = new Map([[HOST_CALL, 'host-call'], [HOST_RETURN, 'host-return'], [IMPORT_CALL, 'import-call'], [IMPORT_RETURN, 'import-return']]);
 
-/** Whether a line of a history is a crossing. @param {string} line */
+/**
+ * Whether a line of a history is a crossing.
+ * @param {string} line
+ */
 export const isCrossing = line => /^(host|import)-(call|return) /.test(line);
 
 /**

@@ -28,7 +28,10 @@ export class NotWhole extends Error {}
  * @property {(place: number, types: number[]) => number[]} shownResults
  */
 
-/** A list of actions, with places for what is found later. @typedef {(string | string[])[]} Actions */
+/**
+ * A list of actions, with places for what is found later.
+ * @typedef {(string | string[])[]} Actions
+ */
 
 /** The answer to one call: a trap of the host until it is given. */
 class Answer {
@@ -48,7 +51,10 @@ class Answer {
 const hex = bytes => Array.from(bytes, byte => byte.toString(16).padStart(2, '0')).join('');
 
 export class Script {
-  /** @param {Events} events @param {View} view */
+  /**
+   * @param {Events} events
+   * @param {View} view
+   */
   constructor(events, view) {
     this.view = view;
     this.types = events.record.plan.m.globals;
@@ -57,12 +63,18 @@ export class Script {
     /** @type {Map<number, Answer[]>} */
     this.answers = new Map();
     this.actions = this.main;
-    /** What the host does last before K goes on: writes and entries that are found later come here. @type {string[]} */
+    /**
+     * What the host does last before K goes on: writes and entries that are found later come here.
+     * @type {string[]}
+     */
     this.late = [];
     /** @type {(Actions | Answer)[]} */
     this.stack = [];
     this.isFirst = true;
-    /** What is found before the start function, where r3 calls it by itself. @type {string[]} */
+    /**
+     * What is found before the start function, where r3 calls it by itself.
+     * @type {string[]}
+     */
     this.beforeStart = [];
     for (const event of events) this.add(event);
     if (this.beforeStart.length > 0) throw new NotWhole('what the host did before the start function');
@@ -135,7 +147,11 @@ export class Script {
     return sum;
   }
 
-  /** @param {number} index @param {number} low @param {number} high */
+  /**
+   * @param {number} index
+   * @param {number} low
+   * @param {number} high
+   */
   globalValue(index, low, high) {
     const { type } = this.types[index];
     const wide = BigInt(low >>> 0) | BigInt(high) << 32n;
@@ -143,7 +159,10 @@ export class Script {
   }
 }
 
-/** The answers as objects of module names and names. @param {Script} script */
+/**
+ * The answers as objects of module names and names.
+ * @param {Script} script
+ */
 function* answerPieces({ answers, view }) {
   /** @type {Map<string, [string, Answer[]][]>} */
   const modules = new Map();
@@ -166,7 +185,10 @@ function* answerPieces({ answers, view }) {
   yield '},\n';
 }
 
-/** The text of a script, in pieces: one action or answer a line. @param {Script} script */
+/**
+ * The text of a script, in pieces: one action or answer a line.
+ * @param {Script} script
+ */
 export function* scriptPieces(script) {
   yield '{';
   for (const part of script.supplied) yield `${part},\n`;

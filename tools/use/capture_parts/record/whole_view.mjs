@@ -10,14 +10,21 @@ import { scriptValue } from './values.mjs';
 /** @typedef {import('./script.mjs').View} View */
 /** @typedef {import('../../wasm/module.mjs').Module} Module */
 
-/** The first export of each function or global. @param {Module} m @param {number} kind */
+/**
+ * The first export of each function or global.
+ * @param {Module} m
+ * @param {number} kind
+ */
 function exportNames(m, kind) {
   const names = new Map();
   for (const item of m.exports) if (item.kind === kind && !names.has(item.index)) names.set(item.index, item.name);
   return /** @type {Map<number, string>} */ (names);
 }
 
-/** The table as instantiation has left it, as far as the module says so. @param {Events} events */
+/**
+ * The table as instantiation has left it, as far as the module says so.
+ * @param {Events} events
+ */
 function firstTable({ record: { plan: { m }, state } }) {
   /** @type {Map<number, number | null>} */
   const table = new Map();
@@ -32,7 +39,10 @@ function firstTable({ record: { plan: { m }, state } }) {
 
 /** @implements {View} */
 export class WholeView {
-  /** @param {Events} events @param {Contents} contents */
+  /**
+   * @param {Events} events
+   * @param {Contents} contents
+   */
   constructor(events, contents) {
     const { plan, state } = events.record;
     const { m } = plan;
@@ -54,7 +64,10 @@ export class WholeView {
     this.supplied = this.supply();
   }
 
-  /** Imports of equal names share their answers. @param {Contents} contents */
+  /**
+   * Imports of equal names share their answers.
+   * @param {Contents} contents
+   */
   refuseSharedNames({ importCalls }) {
     const called = [...importCalls.keys()].map(place => this.imports[this.plan.callees[place]]);
     for (const { module, name } of called) {
@@ -111,7 +124,10 @@ export class WholeView {
     return `"call_table":${place}`;
   }
 
-  /** Whether the host reaches the memory or the table. @param {number} kind */
+  /**
+   * Whether the host reaches the memory or the table.
+   * @param {number} kind
+   */
   reaches(kind) {
     return this.m.exports.some(item => item.kind === kind) || this.m.imports.some(item => item.kind === kind);
   }
@@ -122,12 +138,19 @@ export class WholeView {
     return [module, name];
   }
 
-  /** @param {number} place @param {number[]} types @param {(number | bigint)[]} values */
+  /**
+   * @param {number} place
+   * @param {number[]} types
+   * @param {(number | bigint)[]} values
+   */
   response(place, types, values) {
     return { actions: /** @type {string[]} */ ([]), result: types.length === 0 ? '' : `"return":${scriptValue(types[0], values[0])}` };
   }
 
-  /** @param {number} index @param {string} value */
+  /**
+   * @param {number} index
+   * @param {string} value
+   */
   setGlobal(index, value) {
     const name = this.globalNames.get(index);
     const item = this.m.imports.filter(other => other.kind === KIND.global)[index];
@@ -135,7 +158,11 @@ export class WholeView {
     return `{"set_global":${name === undefined ? `{"import":${JSON.stringify([item.module, item.name])}}` : JSON.stringify(name)},"value":${value}}`;
   }
 
-  /** @param {number} place @param {number} index @param {boolean} isFirst */
+  /**
+   * @param {number} place
+   * @param {number} index
+   * @param {boolean} isFirst
+   */
   setEntry(place, index, isFirst) {
     if (isFirst && this.table.get(place) === index) return null;
     const name = index === NO_FUNCTION ? null : this.functionNames.get(index);
@@ -154,7 +181,10 @@ export class WholeView {
     return this.plan.callees[place];
   }
 
-  /** @param {number} place @param {number[]} types */
+  /**
+   * @param {number} place
+   * @param {number[]} types
+   */
   shownResults(place, types) {
     return types;
   }

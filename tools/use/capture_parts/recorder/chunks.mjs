@@ -18,7 +18,11 @@ export function chunk(tag, bytes) {
   return whole;
 }
 
-/** A chunk of a value, as JSON. @param {number} tag @param {unknown} value */
+/**
+ * A chunk of a value, as JSON.
+ * @param {number} tag
+ * @param {unknown} value
+ */
 export const jsonChunk = (tag, value) => chunk(tag, new TextEncoder().encode(JSON.stringify(value)));
 
 /**

@@ -27,15 +27,24 @@ const pagesFor = entries => Math.ceil((entries + 1) / PAGE_WORDS);
  */
 
 export class Entries {
-  /** @param {Surroundings} surroundings @param {WebAssembly.Table | null} table the program's */
+  /**
+   * @param {Surroundings} surroundings
+   * @param {WebAssembly.Table | null} table the program's
+   */
   constructor(surroundings, table) {
     this.surroundings = surroundings;
     this.plan = surroundings.plan;
     this.table = table;
     const size = table === null ? 0 : native.size(table);
-    /** The functions as K has called by them, or as instantiation has left them. @type {(Function | null)[]} */
+    /**
+     * The functions as K has called by them, or as instantiation has left them.
+     * @type {(Function | null)[]}
+     */
     this.noted = Array.from({ length: size }, (_, place) => native.entry(/** @type {WebAssembly.Table} */ (table), place));
-    /** Entries that K has called by. @type {Set<number>} */
+    /**
+     * Entries that K has called by.
+     * @type {Set<number>}
+     */
     this.called = new Set();
     this.watch = native.exports(entriesBytes(pagesFor(size)), { js: { entry: (/** @type {number} */ place) => this.look(place) } });
     this.epochs = new Int32Array(this.watch.memory.buffer);
@@ -43,6 +52,10 @@ export class Entries {
     this.size = size;
     /** Whether the table may change unseen, so that it is looked at anew after each turn of the host. */
     this.isUnsteady = this.plan.restChangesTable;
+    /** @type {Function | null} */
+    this.other = null;
+    /** @type {any} */
+    this.kept = null;
     /** @type {Map<Function, { number: number, own: Function }>} */
     this.foreign = new Map();
     /** @type {Map<Function, number> | null} */
@@ -62,7 +75,10 @@ export class Entries {
     this.epochs[0]++;
   }
 
-  /** K is about to call by an entry. @param {number} given */
+  /**
+   * K is about to call by an entry.
+   * @param {number} given
+   */
   look(given) {
     const place = given >>> 0;
     this.surroundings.guarded(() => this.lookAt(place), undefined);
@@ -91,7 +107,11 @@ export class Entries {
     this.epochs = new Int32Array(this.watch.memory.buffer);
   }
 
-  /** @param {number} place @param {Function | null} func @param {number} action */
+  /**
+   * @param {number} place
+   * @param {Function | null} func
+   * @param {number} action
+   */
   set(place, func, action) {
     this.called.add(place);
     this.noted[place] = func;
@@ -100,7 +120,11 @@ export class Entries {
     if (action === ENTRY || number !== NO_FUNCTION) this.surroundings.action(action, [place, number]);
   }
 
-  /** What K has for a function of the program's table. @param {Function | null} func @returns {{ number: number, own: Function | null }} */
+  /**
+   * What K has for a function of the program's table.
+   * @param {Function | null} func
+   * @returns {{ number: number, own: Function | null }}
+   */
   functionOfKept(func) {
     if (func === null) return { number: NO_FUNCTION, own: null };
     const index = this.indexOf(func);
@@ -120,7 +144,7 @@ export class Entries {
 
   /** A function whose type no kept function calls. */
   otherFunction() {
-    this.other ??= native.exports(takingBytes(OTHER_TYPE), { h: { f: () => {} } }).f;
+    this.other ??= /** @type {Function} */ (native.exports(takingBytes(OTHER_TYPE), { h: { f: () => {} } }).f);
     return this.other;
   }
 
@@ -146,7 +170,10 @@ export class Entries {
     return { number, own: bridge['out.0'] };
   }
 
-  /** @param {Function} func @param {FunctionType} type */
+  /**
+   * @param {Function} func
+   * @param {FunctionType} type
+   */
   hasType(func, type) {
     const module = this.taking.get(type) ?? new native.Module(takingBytes(type));
     this.taking.set(type, module);

@@ -18,7 +18,12 @@ import { native } from './native.mjs';
  * @property {(number | null)[]} offsets of the data segments, null for passive ones
  */
 
-/** The bits of a global of R, whatever it is: floats are not read by JavaScript. @param {WebAssembly.Global} global @param {number} type @param {boolean} mutable */
+/**
+ * The bits of a global of R, whatever it is: floats are not read by JavaScript.
+ * @param {WebAssembly.Global} global
+ * @param {number} type
+ * @param {boolean} mutable
+ */
 function bitsOf(global, type, mutable) {
   if (type === I32 || type === I64) return String(global.value);
   const convert = type === F32 ? 0xbc : 0xbd;
@@ -48,7 +53,10 @@ export function offsetOf({ all }, valueOfGlobal) {
   return pop() >>> 0;
 }
 
-/** The numbers of the globals whose bits are noted: those of K, and imported ones. @param {Plan} p */
+/**
+ * The numbers of the globals whose bits are noted: those of K, and imported ones.
+ * @param {Plan} p
+ */
 export const notedGlobals = ({ m, globals }) => [...new Set([...globals,
   ...m.globals.flatMap(({ type }, index) => (index < m.importedGlobals && isNumeric(type) ? [index] : []))])];
 

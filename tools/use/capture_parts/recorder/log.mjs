@@ -52,7 +52,12 @@ export class Log {
     this.crossing(kind, number, isWide, values);
   }
 
-  /** @param {number} kind @param {number} number @param {boolean[]} isWide @param {any[]} values */
+  /**
+   * @param {number} kind
+   * @param {number} number
+   * @param {boolean[]} isWide
+   * @param {any[]} values
+   */
   crossing(kind, number, isWide, values) {
     const { words } = this;
     if (words[LOG.position] > words[LOG.limit]) this.flush();
@@ -70,7 +75,10 @@ export class Log {
     words[LOG.position] = at << 2;
   }
 
-  /** @param {number} number @param {number[]} following */
+  /**
+   * @param {number} number
+   * @param {number[]} following
+   */
   action(number, following) {
     this.crossing(ACTION, number, following.map(() => false), following);
   }

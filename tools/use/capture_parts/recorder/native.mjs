@@ -7,18 +7,42 @@ const growMemory = Memory.prototype.grow;
 
 export const native = {
   Module, Instance, Memory, Global, LinkError: WebAssembly.LinkError,
-  /** @param {WebAssembly.Table} table @param {number} index @returns {Function | null} */
+  /**
+   * @param {WebAssembly.Table} table
+   * @param {number} index
+   * @returns {Function | null}
+   */
   entry: (table, index) => get.call(table, index),
-  /** @param {WebAssembly.Table} table @param {number} index @param {Function | null} func */
+  /**
+   * @param {WebAssembly.Table} table
+   * @param {number} index
+   * @param {Function | null} func
+   */
   setEntry: (table, index, func) => set.call(table, index, func),
-  /** @param {WebAssembly.Table} table @param {number} count */
+  /**
+   * @param {WebAssembly.Table} table
+   * @param {number} count
+   */
   growTable: (table, count) => grow.call(table, count),
-  /** @param {WebAssembly.Table} table @returns {number} */
+  /**
+   * @param {WebAssembly.Table} table
+   * @returns {number}
+   */
   size: table => lengthOf.call(table),
-  /** @param {WebAssembly.Memory} memory @returns {ArrayBuffer} */
+  /**
+   * @param {WebAssembly.Memory} memory
+   * @returns {ArrayBuffer}
+   */
   buffer: memory => bufferOf.call(memory),
-  /** @param {WebAssembly.Memory} memory @param {number} pages */
+  /**
+   * @param {WebAssembly.Memory} memory
+   * @param {number} pages
+   */
   grow: (memory, pages) => growMemory.call(memory, pages),
-  /** @param {Uint8Array} bytes @param {WebAssembly.Imports} imports @returns {any} the exports of an instance */
+  /**
+   * @param {Uint8Array} bytes
+   * @param {WebAssembly.Imports} imports
+   * @returns {any} the exports of an instance
+   */
   exports: (bytes, imports) => new Instance(new Module(bytes), imports).exports,
 };

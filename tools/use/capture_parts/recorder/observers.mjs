@@ -21,7 +21,11 @@ import { HOST_CALL, HOST_RETURN, IMPORT_CALL, IMPORT_RETURN } from './log_layout
  * @property {(error: unknown, slot: number) => void} passesFromKept an error passes from K to the host
  */
 
-/** The values of results as a list. @param {number} count @param {any} given */
+/**
+ * The values of results as a list.
+ * @param {number} count
+ * @param {any} given
+ */
 const listed = (count, given) => (count > 1 ? given : [given]);
 
 /**

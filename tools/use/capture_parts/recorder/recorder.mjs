@@ -1,9 +1,9 @@
 /** Runs K and R together in place of M, and records what happens between them. `engine.mjs` says how it is used. */
 import { bridgeBytes, isBridged } from '../split/bridges.mjs';
-import { calleeTypes } from '../split/plan.mjs';
+import { MOST_PAGES, calleeTypes } from '../split/plan.mjs';
 import { REST_NAMES, restBytes } from '../split/rest.mjs';
 import { KEPT_NAMES, firstKept, watchedBytes } from '../split/watched.mjs';
-import { ACCESSES, MOST_PAGES, floatBytes, shadowBytes } from '../split/watcher.mjs';
+import { ACCESSES, floatBytes, shadowBytes } from '../split/watcher.mjs';
 import { CHUNK, chunk, jsonChunk } from './chunks.mjs';
 import { Entries } from './entries.mjs';
 import { initialState } from './initial_state.mjs';
@@ -28,7 +28,10 @@ export class OwnFault extends Error {}
  * @property {number | null} slot of the function of K that a trap passed, or null
  */
 
-/** What an error says, whatever it is. @param {any} error */
+/**
+ * What an error says, whatever it is.
+ * @param {any} error
+ */
 function textOf(error) {
   try {
     return String(error?.message ?? error);
@@ -58,7 +61,19 @@ export class Recorder {
     /** Crossings after the end of the record. */
     this.after = 0;
     this.hasEnded = false;
-    /** The kept functions that are known to be entered. @type {Set<number>} */
+    /**
+     * The exports of R, of K, and of what watches K; undefined until they are there.
+     * @type {any}
+     */
+    this.rest = undefined;
+    /** @type {any} */
+    this.kept = undefined;
+    /** @type {any} */
+    this.watch = undefined;
+    /**
+     * The kept functions that are known to be entered.
+     * @type {Set<number>}
+     */
     this.entered = new Set();
     this.log = new Log(bytes => this.sink(bytes), () => this.marks());
     this.unwinding = new Unwinding(plan.kept, firstKept(plan));
@@ -98,7 +113,11 @@ export class Recorder {
     return this.rest[this.plan.prefix + name];
   }
 
-  /** @param {any} rest @param {WebAssembly.Module} keptModule @param {object} given */
+  /**
+   * @param {any} rest
+   * @param {WebAssembly.Module} keptModule
+   * @param {object} given
+   */
   connect(rest, keptModule, given) {
     const { plan } = this;
     this.rest = rest;
@@ -111,10 +130,9 @@ export class Recorder {
       action: (number, following) => this.action(number, following),
       importObserver: (place, type, target) => importObserver(this, place, type, target),
       guarded: (step, otherwise) => this.guarded(step, otherwise) }, this.table);
-    const kept = this.keptInstance(keptModule);
-    this.kept = kept;
-    this.entries.connect(kept);
-    kept[KEPT_NAMES.probe]();
+    this.kept = this.keptInstance(keptModule);
+    this.entries.connect(this.kept);
+    this.kept[KEPT_NAMES.probe]();
     this.trampolines();
     this.watch.note();
     this.sink(chunk(CHUNK.module, plan.m.bytes));
@@ -211,7 +229,10 @@ export class Recorder {
     }
   }
 
-  /** @param {number} number @param {number[]} following */
+  /**
+   * @param {number} number
+   * @param {number[]} following
+   */
   action(number, following) {
     if (!this.isOver) this.log.action(number, following);
   }
@@ -220,7 +241,10 @@ export class Recorder {
     this.after++;
   }
 
-  /** K has grown the memory. @param {number} before */
+  /**
+   * K has grown the memory.
+   * @param {number} before
+   */
   grown(before) {
     this.guarded(() => {
       this.shadow?.grownPages();
@@ -230,7 +254,10 @@ export class Recorder {
     return before;
   }
 
-  /** @param {unknown} error @param {number} place */
+  /**
+   * @param {unknown} error
+   * @param {number} place
+   */
   passesToKept(error, place) {
     this.guarded(() => {
       this.finish({ by: isOverflow(error) ? 'overflow' : 'exception', text: textOf(error), place, slot: null });
@@ -238,7 +265,10 @@ export class Recorder {
     }, undefined);
   }
 
-  /** @param {unknown} error @param {number} slot */
+  /**
+   * @param {unknown} error
+   * @param {number} slot
+   */
   passesFromKept(error, slot) {
     this.guarded(() => {
       if (this.isOver) return;
@@ -249,7 +279,10 @@ export class Recorder {
 
   /* The end. */
 
-  /** Nothing is recorded from here on; the program goes on. @param {Over} over */
+  /**
+   * Nothing is recorded from here on; the program goes on.
+   * @param {Over} over
+   */
   finish(over) {
     if (this.isOver) return;
     this.over = over;
@@ -258,18 +291,28 @@ export class Recorder {
     this.watch.off.value = 1;
   }
 
-  /** Ends the record, and lets the program run on. @param {string} text */
+  /**
+   * Ends the record, and lets the program run on.
+   * @param {string} text
+   */
   stop(text) {
     this.finish({ by: 'stopped', text, place: null, slot: null });
   }
 
-  /** A fault of the recorder ends the record, and never reaches the program. @param {unknown} fault */
+  /**
+   * A fault of the recorder ends the record, and never reaches the program.
+   * @param {unknown} fault
+   */
   ownFault(fault) {
     this.fault ??= textOf(fault);
     this.finish({ by: 'fault', text: textOf(fault), place: null, slot: null });
   }
 
-  /** @template T @param {() => T} step @param {T} otherwise */
+  /**
+   * @template T
+   * @param {() => T} step
+   * @param {T} otherwise
+   */
   guarded(step, otherwise) {
     try {
       return step();
@@ -306,7 +349,10 @@ export class Recorder {
     if (this.kept !== undefined && !this.hasEnded) this.guarded(() => this.log.flush(), undefined);
   }
 
-  /** The program is at its end: all that is left goes to the sink. @param {string} why */
+  /**
+   * The program is at its end: all that is left goes to the sink.
+   * @param {string} why
+   */
   end(why) {
     if (this.hasEnded) return;
     this.hasEnded = true;
@@ -327,7 +373,10 @@ export class Recorder {
 
   /* What the interceptor reports. */
 
-  /** A table was changed by JavaScript. @param {WebAssembly.Table} table */
+  /**
+   * A table was changed by JavaScript.
+   * @param {WebAssembly.Table} table
+   */
   tableChanged(table) {
     if (table === this.table) this.entries?.changed();
   }

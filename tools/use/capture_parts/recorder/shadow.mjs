@@ -6,7 +6,8 @@
  * any more. Where K's stores are not watched either, the shadow of the block is brought up to date when control leaves K.
  */
 import { BLOCK, BLOCK_BITS } from '../split/operations.mjs';
-import { MOST_PAGES, OWNED, OWNED_FOR_STORES, SHADOW_PAGES, STATE, STATE_BITS } from '../split/watcher.mjs';
+import { MOST_PAGES } from '../split/plan.mjs';
+import { OWNED, OWNED_FOR_STORES, SHADOW_PAGES, STATE, STATE_BITS } from '../split/watcher.mjs';
 import { native } from './native.mjs';
 
 const PAGE = 65536;
@@ -28,15 +29,25 @@ export class Shadow {
     this.shadowMemory = shadow;
     this.found = found;
     this.turn = 1;
-    /** The blocks whose stores are not watched. @type {number[]} */
+    /**
+     * The blocks whose stores are not watched.
+     * @type {number[]}
+     */
     this.stored = [];
-    [this.next, this.run] = [-1, 1];
+    this.next = -1;
+    this.run = 1;
+    this.real = new Uint8Array(0);
+    this.known = new Uint8Array(0);
+    this.realWords = new Int32Array(0);
+    this.knownWords = new Int32Array(0);
+    /** What is known of each block. */
+    this.blocks = new Int32Array(0);
     this.look();
   }
 
   look() {
     const buffer = native.buffer(this.shadowMemory);
-    this.real = new Uint8Array(this.memory === null ? 0 : native.buffer(this.memory));
+    this.real = new Uint8Array(this.memory === null ? new ArrayBuffer(0) : native.buffer(this.memory));
     this.blocks = new Int32Array(buffer, 0, SHADOW_PAGES * PAGE / 4);
     this.known = new Uint8Array(buffer, SHADOW_PAGES * PAGE);
     this.realWords = new Int32Array(this.real.buffer);
@@ -79,18 +90,28 @@ export class Shadow {
     for (let block = 0; block < this.blocks.length; block++) if (this.blocks[block] !== 0) this.blocks[block] = 1;
   }
 
-  /** Whether K owns a block in this turn. @param {number} block */
+  /**
+   * Whether K owns a block in this turn.
+   * @param {number} block
+   */
   isOwned(block) {
     const word = this.blocks[block];
     return word >>> STATE_BITS === this.turn && (word & STATE) >= OWNED;
   }
 
-  /** @param {number} block @param {number} state */
+  /**
+   * @param {number} block
+   * @param {number} state
+   */
   mark(block, state) {
     this.blocks[block] = this.turn << STATE_BITS | state;
   }
 
-  /** Compares bytes of one block, and says whether some differ. Bytes between that do not differ are not added: K may have read their old values. @param {number} from @param {number} to */
+  /**
+   * Compares bytes of one block, and says whether some differ. Bytes between that do not differ are not added: K may have read their old values.
+   * @param {number} from
+   * @param {number} to
+   */
   compare(from, to) {
     let [begin, differ] = [-1, false];
     for (let at = from; at < to; at++) {
@@ -110,14 +131,21 @@ export class Shadow {
     return differ;
   }
 
-  /** @param {number} begin @param {number} end */
+  /**
+   * @param {number} begin
+   * @param {number} end
+   */
   add(begin, end) {
     const bytes = this.real.subarray(begin, end);
     this.known.set(bytes, begin);
     this.found(begin, bytes);
   }
 
-  /** A load of K in a block that it does not own has found other bytes than the shadow has. @param {number} address @param {number} count */
+  /**
+   * A load of K in a block that it does not own has found other bytes than the shadow has.
+   * @param {number} address
+   * @param {number} count
+   */
   miss(address, count) {
     const last = Math.min(address + count + REACH, this.real.length);
     for (let at = address; at < last;) {
@@ -127,7 +155,11 @@ export class Shadow {
     }
   }
 
-  /** Bytes that K reads at once: over the end of a block, or by a copy. @param {number} from @param {number} count */
+  /**
+   * Bytes that K reads at once: over the end of a block, or by a copy.
+   * @param {number} from
+   * @param {number} count
+   */
   reads(from, count) {
     for (let at = from; at < from + count;) {
       const end = Math.min((at | (BLOCK - 1)) + 1, from + count);
@@ -140,7 +172,10 @@ export class Shadow {
     }
   }
 
-  /** K owns the block of an address, and blocks behind it where it has come to this one from the block before. @param {number} address */
+  /**
+   * K owns the block of an address, and blocks behind it where it has come to this one from the block before.
+   * @param {number} address
+   */
   own(address) {
     const first = address >>> BLOCK_BITS;
     this.run = first === this.next ? Math.min(2 * this.run, MOST_BLOCKS) : 1;
@@ -160,19 +195,33 @@ export class Shadow {
     this.stored.push(block);
   }
 
-  /** K is about to copy: what it reads is compared, and what it writes is known. A range past the end traps. @param {number} to @param {number} from @param {number} count */
+  /**
+   * K is about to copy: what it reads is compared, and what it writes is known. A range past the end traps.
+   * @param {number} to
+   * @param {number} from
+   * @param {number} count
+   */
   copies(to, from, count) {
     if (Math.max(to, from) + count > this.real.length) return;
     this.reads(from, count);
     this.known.set(this.real.subarray(from, from + count), to);
   }
 
-  /** K is about to fill. @param {number} to @param {number} value @param {number} count */
+  /**
+   * K is about to fill.
+   * @param {number} to
+   * @param {number} value
+   * @param {number} count
+   */
   fills(to, value, count) {
     if (to + count <= this.real.length) this.known.fill(value & 255, to, to + count);
   }
 
-  /** The blocks of a range that K has used, as runs of addresses. @param {number} begin @param {number} end */
+  /**
+   * The blocks of a range that K has used, as runs of addresses.
+   * @param {number} begin
+   * @param {number} end
+   */
   used(begin, end) {
     /** @type {[number, number][]} */
     const runs = [];

@@ -13,27 +13,37 @@ const THEN = 100;
  * @returns {string[]}
  */
 function stackLines() {
-  const { stackTraceLimit, prepareStackTrace } = Error;
+  const settings = /** @type {any} */ (Error);
+  const { stackTraceLimit, prepareStackTrace } = settings;
   try {
-    Error.stackTraceLimit = Infinity;
-    Error.prepareStackTrace = undefined;
+    settings.stackTraceLimit = Infinity;
+    settings.prepareStackTrace = undefined;
     return linesOf(new Error().stack);
   } finally {
-    Error.stackTraceLimit = stackTraceLimit;
-    Error.prepareStackTrace = prepareStackTrace;
+    settings.stackTraceLimit = stackTraceLimit;
+    settings.prepareStackTrace = prepareStackTrace;
   }
 }
 /** @param {unknown} stack */
 const linesOf = stack => (typeof stack === 'string' ? stack.split('\n').filter(line => line.trimStart().startsWith('at ')) : []);
 
 export class Unwinding {
-  /** @param {number[]} kept @param {number} first the number of the first kept function in K */
+  /**
+   * @param {number[]} kept
+   * @param {number} first the number of the first kept function in K
+   */
   constructor(kept, first) {
     this.kept = kept;
     this.first = first;
-    /** K's address in stacks. @type {string | null} */
+    /**
+     * K's address in stacks.
+     * @type {string | null}
+     */
     this.address = null;
-    /** The functions, with how many crossings were not recorded when they were last ended. @type {Map<number, number>} */
+    /**
+     * The functions, with how many crossings were not recorded when they were last ended.
+     * @type {Map<number, number>}
+     */
     this.ended = new Map();
     this.count = 0;
   }
@@ -43,7 +53,10 @@ export class Unwinding {
     this.address ??= stackLines().map(line => FRAME.exec(line)?.[1]).find(text => text !== undefined) ?? null;
   }
 
-  /** The functions of K in the first run of its frames. @param {string[]} lines */
+  /**
+   * The functions of K in the first run of its frames.
+   * @param {string[]} lines
+   */
   functions(lines) {
     const frames = lines.map(line => FRAME.exec(line)).map(found => (found?.[1] === this.address ? Number(found?.[2]) : null));
     const begin = frames.findIndex(number => number !== null);
@@ -55,19 +68,29 @@ export class Unwinding {
     });
   }
 
-  /** An error passes from a callee to K, whose frames are on the stack. @param {number} after crossings that were not recorded */
+  /**
+   * An error passes from a callee to K, whose frames are on the stack.
+   * @param {number} after crossings that were not recorded
+   */
   throughCallee(after) {
     if (++this.count > MOST && this.count % THEN !== 0) return;
     for (const index of this.functions(stackLines())) this.ended.set(index, after);
   }
 
-  /** An error comes from K itself. Its stack is looked at unless the program makes stacks. @param {unknown} error @param {number} after */
+  /**
+   * An error comes from K itself. Its stack is looked at unless the program makes stacks.
+   * @param {unknown} error
+   * @param {number} after
+   */
   fromKept(error, after) {
-    if (Error.prepareStackTrace !== undefined || !(error instanceof Error)) return;
+    if (/** @type {any} */ (Error).prepareStackTrace !== undefined || !(error instanceof Error)) return;
     for (const index of this.functions(linesOf(error.stack))) this.ended.set(index, after);
   }
 
-  /** Those after whose end there were more crossings. @param {number} after all crossings that were not recorded */
+  /**
+   * Those after whose end there were more crossings.
+   * @param {number} after all crossings that were not recorded
+   */
   stale(after) {
     return [...this.ended].filter(([, then]) => then < after).map(([index]) => index);
   }

@@ -53,7 +53,10 @@ const prefixed = (/** @type {number} */ op) => [op >> PREFIX_BITS, u32(op & ((1 
 
 /** The instructions of one body. */
 class Spelling {
-  /** @param {Module} m @param {Places} places */
+  /**
+   * @param {Module} m
+   * @param {Places} places
+   */
   constructor(m, places) {
     this.m = m;
     this.places = places;
@@ -79,28 +82,43 @@ class Spelling {
     return null;
   }
 
-  /** @param {number} op @returns {Part} */
+  /**
+   * @param {number} op
+   * @returns {Part}
+   */
   float(op) {
     return call(this.places.float(op));
   }
 
-  /** @param {Instruction} item @returns {Part | null} */
+  /**
+   * @param {Instruction} item
+   * @returns {Part | null}
+   */
   block({ op, typeIndex }) {
     if (typeof typeIndex !== 'number') return null;
     return [op, this.m.types[typeIndex].results[0] ?? 0x40];
   }
 
-  /** @param {number} type @returns {Part} */
+  /**
+   * @param {number} type
+   * @returns {Part}
+   */
   callIndirect(type) {
     return [OP.callIndirect, u32(this.places.type(this.m.types[type])), 0];
   }
 
-  /** @param {Instruction} item @returns {Part} */
+  /**
+   * @param {Instruction} item
+   * @returns {Part}
+   */
   load({ op, align = 0, offset = 0 }) {
     return [op, u32(align), u32(offset)];
   }
 
-  /** @param {Instruction} item @returns {Part} */
+  /**
+   * @param {Instruction} item
+   * @returns {Part}
+   */
   store({ op, align = 0, offset = 0 }) {
     return [op, u32(align), u32(offset)];
   }
@@ -110,7 +128,10 @@ class Spelling {
     return [OP.memoryGrow, 0];
   }
 
-  /** @param {number} op @returns {Part} */
+  /**
+   * @param {number} op
+   * @returns {Part}
+   */
   range(op) {
     return op === OP.memoryCopy ? [prefixed(op), 0, 0] : [prefixed(op), 0];
   }
@@ -118,22 +139,35 @@ class Spelling {
 
 /** The instructions of one body as it runs, watched. */
 class WatchedSpelling extends Spelling {
-  /** @param {Module} m @param {Places} places @param {Watch} watch @param {number} first the first further local */
+  /**
+   * @param {Module} m
+   * @param {Places} places
+   * @param {Watch} watch
+   * @param {number} first the first further local
+   */
   constructor(m, places, watch, first) {
     super(m, places);
     this.watch = watch;
-    [this.address, this.second, this.third] = [first, first + 1, first + 2];
+    this.address = first;
+    this.second = first + 1;
+    this.third = first + 2;
     this.values = new Map([[I32, first + 1], [I64, first + 3], [F32, first + 4], [F64, first + 5]]);
   }
 
-  /** @param {number} op @returns {Part} */
+  /**
+   * @param {number} op
+   * @returns {Part}
+   */
   float(op) {
     const { floats } = this.watch;
     const count = floats === null ? [] : [OP.globalGet, u32(floats), OP.i32Const, 1, 0x6a, OP.globalSet, u32(floats)];
     return [count, super.float(op)];
   }
 
-  /** @param {number} type @returns {Part} */
+  /**
+   * @param {number} type
+   * @returns {Part}
+   */
   callIndirect(type) {
     return [call(this.watch.entry), super.callIndirect(type)];
   }
@@ -155,7 +189,11 @@ class WatchedSpelling extends Spelling {
     return [isOutside, OP.if, 0x40, args(address), turn, call(watch), OP.globalSet, site, OP.end];
   }
 
-  /** @param {number} type @param {number} value @returns {Part} */
+  /**
+   * @param {number} type
+   * @param {number} value
+   * @returns {Part}
+   */
   hashed(type, value) {
     const { hash } = this.watch;
     if (hash === null) return [];
@@ -163,7 +201,10 @@ class WatchedSpelling extends Spelling {
     return [OP.globalGet, u32(hash), bits, 0x85, constant(I64, HASH_FACTOR), 0x7e, OP.globalSet, u32(hash)];
   }
 
-  /** @param {Instruction} item @returns {Part} */
+  /**
+   * @param {Instruction} item
+   * @returns {Part}
+   */
   load(item) {
     const place = item.op - OP.firstLoad;
     const value = this.values.get(LOADED[place]) ?? 0;
@@ -171,7 +212,10 @@ class WatchedSpelling extends Spelling {
     return [tee(this.address), super.load(item), tee(value), watched, this.hashed(LOADED[place], value)];
   }
 
-  /** @param {Instruction} item @returns {Part} */
+  /**
+   * @param {Instruction} item
+   * @returns {Part}
+   */
   store(item) {
     const place = item.op - OP.firstStore;
     const value = this.values.get(STORED[place]) ?? 0;
@@ -184,7 +228,11 @@ class WatchedSpelling extends Spelling {
     return [super.grow(), call(this.watch.grown)];
   }
 
-  /** What a copy or a fill does is known before it is done. @param {number} op @returns {Part} */
+  /**
+   * What a copy or a fill does is known before it is done.
+   * @param {number} op
+   * @returns {Part}
+   */
   range(op) {
     const { address, second, third, watch } = this;
     const operands = [get(address), get(second), get(third)];

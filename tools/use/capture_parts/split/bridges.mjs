@@ -13,10 +13,17 @@ import { OP } from './operations.mjs';
 const TO_FLOAT = new Map([[F32, 0xbe], [F64, 0xbf]]);
 const TO_INTEGER = new Map([[F32, 0xbc], [F64, 0xbd]]);
 
-/** Whether a function of this type has floats at its border. @param {FunctionType} type */
+/**
+ * Whether a function of this type has floats at its border.
+ * @param {FunctionType} type
+ */
 export const isBridged = ({ params, results }) => [...params, ...results].some(isFloat);
 
-/** The same type with integers in place of floats. @param {FunctionType} type @returns {FunctionType} */
+/**
+ * The same type with integers in place of floats.
+ * @param {FunctionType} type
+ * @returns {FunctionType}
+ */
 export const integerType = ({ params, results }) => ({ params: params.map(integerOf), results: results.map(integerOf) });
 
 /**
@@ -48,17 +55,22 @@ function converting({ params, results }, target, before, after, given) {
  */
 export function bridgeBytes(list, isTable) {
   const types = new TypeList();
-  /** @type {Part[]} */
-  const [imports, bodies, exports] = [[], [], []];
-  /** @type {number[]} */
-  const functions = [];
-  /** @param {string} module @param {number} place @param {FunctionType} type */
+  /** @type {{ imports: Part[], functions: number[], bodies: Part[], exports: Part[] }} */
+  const { imports, functions, bodies, exports } = { imports: [], functions: [], bodies: [], exports: [] };
+  /**
+   * @param {string} module
+   * @param {number} place
+   * @param {FunctionType} type
+   */
   const imported = (module, place, type) => imports.push(importItem(module, String(place), KIND.function, u32(types.index(type)))) - 1;
   const observers = list.map((type, place) => imported('js', place, integerType(type)));
   const targets = list.map((type, place) => (isBridged(type) ? imported('target', place, type) : -1));
   const count = imports.length;
   if (isTable) imports.push(importItem('rest', 'trampolines', KIND.table, [FUNCREF, 0, u32(list.length)]));
-  /** @param {FunctionType} type @param {Part} body */
+  /**
+   * @param {FunctionType} type
+   * @param {Part} body
+   */
   const add = (type, body) => {
     bodies.push(body);
     return count + functions.push(types.index(type)) - 1;
@@ -75,7 +87,10 @@ export function bridgeBytes(list, isTable) {
   return moduleBytes({ types: types.list, imports, functions, bodies, exports, elements });
 }
 
-/** A module that takes a function of this type alone, and exports it. @param {FunctionType} type */
+/**
+ * A module that takes a function of this type alone, and exports it.
+ * @param {FunctionType} type
+ */
 export const takingBytes = type => moduleBytes({ types: [type], imports: [importItem('h', 'f', KIND.function, 0)],
   exports: [exportItem('f', KIND.function, 0)] });
 

@@ -14,17 +14,27 @@ import { floatType } from './plan.mjs';
 /** @typedef {import('../../wasm/encoding.mjs').Part} Part */
 /** @typedef {import('../../wasm/value_types.mjs').FunctionType} FunctionType */
 
-/** The type by which K imports a callee: several results come through globals. @param {FunctionType} type */
+/**
+ * The type by which K imports a callee: several results come through globals.
+ * @param {FunctionType} type
+ */
 export const importedType = type => (type.results.length > 1 ? { params: type.params, results: [] } : type);
 
-/** The types of K's imports. @param {Trimmed} k */
+/**
+ * The types of K's imports.
+ * @param {Trimmed} k
+ */
 const importTypes = k => [...k.callees.map(index => importedType(k.plan.m.functions[index])), ...k.floats.map(floatType),
   ...k.hasOther ? [OTHER_TYPE] : []];
 
 /** @param {Trimmed} k */
 const globalPlaces = k => new Map(k.plan.globals.map((index, place) => [index, place]));
 
-/** Runs of entries that follow one another. @param {Map<number, number>} entries @returns {[number, number[]][]} */
+/**
+ * Runs of entries that follow one another.
+ * @param {Map<number, number>} entries
+ * @returns {[number, number[]][]}
+ */
 function runs(entries) {
   /** @type {[number, number[]][]} */
   const found = [];
@@ -36,13 +46,23 @@ function runs(entries) {
   return found;
 }
 
-/** @param {Trimmed} k @param {Contents} contents @returns {Part[]} */
+/**
+ * @param {Trimmed} k
+ * @param {Contents} contents
+ * @returns {Part[]}
+ */
 function elements(k, contents) {
   const place = (/** @type {number} */ index) => u32(index < 0 ? k.imports - 1 : k.places.get(index) ?? NaN);
   return runs(contents.firstEntries).map(([begin, list]) => [0, OP.i32Const, s32(begin), OP.end, vector(list.map(place))]);
 }
 
-/** What K has used of the data segments. @param {Trimmed} k @param {State} state @param {[number, number][][]} used @returns {Part[]} */
+/**
+ * What K has used of the data segments.
+ * @param {Trimmed} k
+ * @param {State} state
+ * @param {[number, number][][]} used
+ * @returns {Part[]}
+ */
 function data(k, state, used) {
   return k.plan.m.data.flatMap(({ bytes }, place) => {
     const offset = state.offsets[place] ?? 0;
@@ -51,7 +71,11 @@ function data(k, state, used) {
   });
 }
 
-/** @param {Trimmed} k @param {State} state @returns {Part[]} */
+/**
+ * @param {Trimmed} k
+ * @param {State} state
+ * @returns {Part[]}
+ */
 function globals(k, state) {
   const { m } = k.plan;
   const bits = new Map(state.globals);
@@ -62,7 +86,12 @@ function globals(k, state) {
   return [...ofModule, ...k.results.map(({ type }) => [type, 1, constant(type, 0), OP.end])];
 }
 
-/** @param {Trimmed} k @param {boolean} usesMemory @param {boolean} usesTable @returns {Part[]} */
+/**
+ * @param {Trimmed} k
+ * @param {boolean} usesMemory
+ * @param {boolean} usesTable
+ * @returns {Part[]}
+ */
 function exports(k, usesMemory, usesTable) {
   const places = globalPlaces(k);
   return [
@@ -75,7 +104,11 @@ function exports(k, usesMemory, usesTable) {
   ];
 }
 
-/** The bodies of K; one that did not run is a trap. @param {Trimmed} k @param {TypeList} types */
+/**
+ * The bodies of K; one that did not run is a trap.
+ * @param {Trimmed} k
+ * @param {TypeList} types
+ */
 function bodies(k, types) {
   const { m } = k.plan;
   const places = globalPlaces(k);

@@ -47,7 +47,11 @@ export const isCore = type => type.results.length <= 1 && hasNumericTypes(type);
 export const isImportable = hasNumericTypes;
 
 class Survey {
-  /** @param {Module} m @param {number} table @param {boolean} isOutlined whether float instructions are outlined */
+  /**
+   * @param {Module} m
+   * @param {number} table
+   * @param {boolean} isOutlined whether float instructions are outlined
+   */
   constructor(m, table, isOutlined) {
     this.m = m;
     this.table = table;
@@ -113,7 +117,10 @@ class Survey {
     else this.no('a call with values of another type');
   }
 
-  /** @param {number} type @param {number} table */
+  /**
+   * @param {number} type
+   * @param {number} table
+   */
   callIndirect(type, table) {
     if (table !== this.table) this.no('a call by another table');
     if (!isCore(this.m.types[type])) this.no('a call by the table with several results or values of another type');

@@ -43,6 +43,12 @@ import { FLOAT_TYPES, OP } from './operations.mjs';
  * @property {string} prefix of the names that R exports for the recorder
  */
 
+/** The flags of memories. */
+const SHARED = 2;
+const WIDE = 4;
+/** r3 takes memories of at most so many pages. */
+export const MOST_PAGES = 4096;
+
 /** Thrown where a module is not split. The message is one line. */
 export class NotSplit extends Error {}
 
@@ -54,7 +60,10 @@ export class NotSplit extends Error {}
 function numbersOf(m, list) {
   /** @type {Map<string, number[]>} */
   const places = new Map();
-  /** @param {string} text @param {number} index */
+  /**
+   * @param {string} text
+   * @param {number} index
+   */
   const add = (text, index) => places.set(text, [...places.get(text) ?? [], index]);
   for (const item of m.exports) if (item.kind === KIND.function) add(item.name, item.index);
   m.names.forEach((text, index) => add(text, index));
@@ -65,7 +74,10 @@ function numbersOf(m, list) {
   }));
 }
 
-/** The functions in segments. @param {Module} m */
+/**
+ * The functions in segments.
+ * @param {Module} m
+ */
 const inSegments = m => m.elements.flatMap(item => item.functions.filter(index => index !== null));
 
 /**
@@ -89,7 +101,10 @@ function reached(m, all, roots) {
   return found;
 }
 
-/** The functions that a table may hold: those of segments, of exports and of constants. @param {Module} m */
+/**
+ * The functions that a table may hold: those of segments, of exports and of constants.
+ * @param {Module} m
+ */
 function heldFunctions(m) {
   const held = new Set(/** @type {number[]} */ (inSegments(m)));
   for (const item of m.exports) if (item.kind === KIND.function) held.add(item.index);
@@ -97,14 +112,22 @@ function heldFunctions(m) {
   return held;
 }
 
-/** A prefix that no export of the module has. @param {Module} m */
+/**
+ * A prefix that no export of the module has.
+ * @param {Module} m
+ */
 function freePrefix(m) {
   let prefix = 'r3:';
   while (m.exports.some(item => item.name.startsWith(prefix))) prefix = `_${prefix}`;
   return prefix;
 }
 
-/** The kept functions, and why the others are not kept. @param {Module} m @param {Choice} choice @param {Needs[]} all */
+/**
+ * The kept functions, and why the others are not kept.
+ * @param {Module} m
+ * @param {Choice} choice
+ * @param {Needs[]} all
+ */
 function division(m, choice, all) {
   const drop = numbersOf(m, choice.drop ?? []);
   const keep = choice.keep == null ? null : numbersOf(m, choice.keep);
@@ -144,6 +167,7 @@ function unsteady(m, globals, rest) {
  */
 export function planOf(bytes, choice) {
   const m = moduleOf(bytes);
+  refuseMemories(m);
   const table = m.tables.findIndex(item => item.type === FUNCREF);
   const isOutlined = choice.floats !== 'none';
   const all = m.bodies.map((_, defined) => needsOf(m, m.importedFunctions + defined, table, isOutlined));
@@ -163,7 +187,10 @@ function moduleOf(bytes) {
   }
 }
 
-/** The most frequent reasons, in words. @param {Map<number, string>} why */
+/**
+ * The most frequent reasons, in words.
+ * @param {Map<number, string>} why
+ */
 function firstReasons(why) {
   const counts = countsOf(why);
   return counts.length === 0 ? '' : `: ${counts.slice(0, 3).map(([text, count]) => `${text} (${count})`).join(', ')}`;
@@ -178,6 +205,18 @@ export function countsOf(why) {
   const counts = new Map();
   for (const text of why.values()) counts.set(text, (counts.get(text) ?? 0) + 1);
   return [...counts].sort(([, one], [, other]) => other - one);
+}
+
+/**
+ * Throws where the module has memories that r3 has no like of.
+ * @param {Module} m
+ */
+function refuseMemories(m) {
+  for (const { flags, min } of m.memories) {
+    if (flags & SHARED) throw new NotSplit('its memory is shared, as threads have it');
+    if (flags & WIDE) throw new NotSplit('its memory has addresses of 64 bits');
+    if (min > MOST_PAGES) throw new NotSplit(`its memory has ${min} pages, and r3 takes at most ${MOST_PAGES}`);
+  }
 }
 
 /**

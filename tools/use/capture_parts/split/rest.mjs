@@ -22,7 +22,10 @@ export const REST_NAMES = {
   /** @param {number} index */ global: index => `global ${index}`,
 };
 
-/** @param {Plan} p @returns {Part[]} */
+/**
+ * @param {Plan} p
+ * @returns {Part[]}
+ */
 function furtherExports(p) {
   const { m, prefix } = p;
   const functions = new Set([...p.held, ...p.callees, ...m.start === null ? [] : [m.start]]);

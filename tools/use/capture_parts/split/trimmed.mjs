@@ -18,7 +18,10 @@ class Names {
     this.taken = new Set();
   }
 
-  /** @param {string} wanted @param {string} more what makes it another name */
+  /**
+   * @param {string} wanted
+   * @param {string} more what makes it another name
+   */
   free(wanted, more) {
     let text = this.taken.has(wanted) ? `${wanted} (${more})` : wanted;
     while (this.taken.has(text)) text += '\'';
@@ -48,14 +51,21 @@ class Names {
  * @property {(wanted: string) => string} freeName a name that no export of K has
  */
 
-/** The two names by which K imports a callee. @param {Plan} plan @param {number} index */
+/**
+ * The two names by which K imports a callee.
+ * @param {Plan} plan
+ * @param {number} index
+ */
 function calleeNames({ m, names }, index) {
   const item = m.imports.find(other => other.kind === 0 && other.index === index);
   if (item === undefined) return ['rest', names[index]];
   return [RESERVED.includes(item.module) ? `${item.module} of the module` : item.module, item.name];
 }
 
-/** @param {string[][]} wanted pairs of names @param {(place: number) => string} more */
+/**
+ * @param {string[][]} wanted pairs of names
+ * @param {(place: number) => string} more
+ */
 function freePairs(wanted, more) {
   const names = new Names();
   return wanted.map(([module, text], place) => {
@@ -111,5 +121,9 @@ export function trimmedPlan(plan, slots, contents) {
     otherName: names.free(OTHER_NAME, 'of the border'), freeName: wantedName => names.free(wantedName, 'of the border') };
 }
 
-/** @param {number} key @param {number} value @returns {[number, number]} */
+/**
+ * @param {number} key
+ * @param {number} value
+ * @returns {[number, number]}
+ */
 const entry = (key, value) => [key, value];

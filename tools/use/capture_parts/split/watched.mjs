@@ -66,7 +66,11 @@ class Globals {
   }
 }
 
-/** @param {Plan} p @param {TypeList} types @returns {Part[]} */
+/**
+ * @param {Plan} p
+ * @param {TypeList} types
+ * @returns {Part[]}
+ */
 function imports(p, types) {
   const { m } = p;
   const callees = calleeTypes(p).map((type, place) => importItem('callee', String(place), KIND.function, u32(types.index(type))));
@@ -79,7 +83,12 @@ function imports(p, types) {
   return [...callees, ...helpers, ...memory, ...globals];
 }
 
-/** @param {Plan} p @param {Globals} globals @param {number} first the number of the first kept function @returns {Part[]} */
+/**
+ * @param {Plan} p
+ * @param {Globals} globals
+ * @param {number} first the number of the first kept function
+ * @returns {Part[]}
+ */
 function exports(p, globals, first) {
   const list = [exportItem(KEPT_NAMES.probe, KIND.function, first + p.kept.length),
     exportItem(KEPT_NAMES.turned, KIND.function, first + p.kept.length + 1), exportItem(KEPT_NAMES.hash, KIND.global, globals.hash)];
@@ -97,7 +106,14 @@ function exports(p, globals, first) {
   return list;
 }
 
-/** @param {Plan} p @param {Globals} globals @param {TypeList} types @param {number} first @param {boolean} isHashing @returns {Part[]} */
+/**
+ * @param {Plan} p
+ * @param {Globals} globals
+ * @param {TypeList} types
+ * @param {number} first
+ * @param {boolean} isHashing
+ * @returns {Part[]}
+ */
 function bodies(p, globals, types, first, isHashing) {
   const at = (/** @type {string} */ text) => first - HELPERS.length + HELPERS.findIndex(([other]) => other === text);
   const watch = { load: LOAD_NAMES.map(at), store: STORE_NAMES.map(at), copies: at('copies'), fills: at('fills'),
@@ -134,5 +150,8 @@ export function watchedBytes(p, isHashing) {
     globals: globals.items(), exports: exports(p, globals, first) });
 }
 
-/** The number of the first kept function in K as it runs, by which the frames of a stack are known. @param {Plan} p */
+/**
+ * The number of the first kept function in K as it runs, by which the frames of a stack are known.
+ * @param {Plan} p
+ */
 export const firstKept = p => calleeTypes(p).length + HELPERS.length;

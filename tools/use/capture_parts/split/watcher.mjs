@@ -9,7 +9,7 @@ import { PREFIX_BITS } from '../../wasm/instruction_names.mjs';
 import { F32, F64, I32, I64, integerOf, isFloat, isWide } from '../../wasm/value_types.mjs';
 import { IMPORT_CALL, IMPORT_RETURN, LOG } from '../recorder/log_layout.mjs';
 import { BLOCK, BLOCK_BITS, LOADED, LOADED_BYTES, OP, STORED, STORED_BYTES } from './operations.mjs';
-import { floatType } from './plan.mjs';
+import { MOST_PAGES, floatType } from './plan.mjs';
 import { LOAD_NAMES, STORE_NAMES } from './watched.mjs';
 
 /** @typedef {import('./plan.mjs').Plan} Plan */
@@ -43,13 +43,24 @@ class Functions {
     this.exports = [];
   }
 
-  /** @param {string} module @param {string} text @param {number[]} params @param {number[]} results */
+  /**
+   * @param {string} module
+   * @param {string} text
+   * @param {number[]} params
+   * @param {number[]} results
+   */
   importFunction(module, text, params, results) {
     this.imports.push(importItem(module, text, KIND.function, u32(this.types.index({ params, results }))));
     return this.importedFunctions++;
   }
 
-  /** @param {string} text @param {number[]} params @param {number[]} results @param {Part} code @param {Part} locals */
+  /**
+   * @param {string} text
+   * @param {number[]} params
+   * @param {number[]} results
+   * @param {Part} code
+   * @param {Part} locals
+   */
   add(text, params, results, code, locals = 0) {
     this.exports.push(exportItem(text, KIND.function, this.importedFunctions + this.functions.length));
     this.functions.push(this.types.index({ params, results }));
@@ -66,7 +77,6 @@ class Functions {
 /* The blocks of the shadow: each has a word with the turn, above the bits that say what is known of the block in it. */
 
 /** The shadow lies behind the words of all blocks that a memory of r3's may have. */
-export const MOST_PAGES = 4096;
 export const SHADOW_PAGES = MOST_PAGES * 4 >> BLOCK_BITS;
 const SHADOW = SHADOW_PAGES * 65536;
 /** Below the turn a word has so many bits. */
@@ -81,7 +91,12 @@ export const OWNED_FOR_STORES = STATE;
 const isLess = 0x49;
 const [SHIFT_LEFT, SHIFT_RIGHT, AND, OR_64, IF, ELSE, RETURN] = [0x74, 0x76, 0x71, 0x84, 0x04, 0x05, 0x0f];
 
-/** What a site is set to: the turn and the block's address. @param {number} address @param {number} turn @returns {Part[]} */
+/**
+ * What a site is set to: the turn and the block's address.
+ * @param {number} address
+ * @param {number} turn
+ * @returns {Part[]}
+ */
 const siteOf = (address, turn) => [get(turn), get(address), i32(-BLOCK), AND, 0xad, OR_64];
 
 /**
@@ -136,7 +151,11 @@ function addAccesses(functions, js, off, accesses) {
   });
 }
 
-/** Adds what compares globals: numbers `0..` are imported, and their shadows follow. @param {Functions} functions @param {Plan} p */
+/**
+ * Adds what compares globals: numbers `0..` are imported, and their shadows follow.
+ * @param {Functions} functions
+ * @param {Plan} p
+ */
 function addGlobals(functions, p) {
   const { unsteadyGlobals, m } = p;
   const count = unsteadyGlobals.length;
@@ -189,13 +208,23 @@ export function entriesBytes(pages) {
   return functions.bytes({ memories: [[0, u32(pages)]] });
 }
 
-/** Code that writes a word or two to the log, at the address in local `at`. @param {number} type @param {Part} value @param {number} at @param {number} offset */
+/**
+ * Code that writes a word or two to the log, at the address in local `at`.
+ * @param {number} type
+ * @param {Part} value
+ * @param {number} at
+ * @param {number} offset
+ */
 function logged(type, value, at, offset) {
   return [get(at), value, asInteger(type), STORE[/** @type {0x7f | 0x7e} */ (integerOf(type))], 2, u32(offset)];
 }
 const wordsOf = (/** @type {number[]} */ types) => types.reduce((sum, type) => sum + (isWide(type) ? 2 : 1), 0);
 
-/** Code that moves the log's position on. @param {number} at @param {number} words */
+/**
+ * Code that moves the log's position on.
+ * @param {number} at
+ * @param {number} words
+ */
 const movedOn = (at, words) => [i32(0), get(at), i32(4 * words), I32_ADD, STORE[I32], 2, u32(4 * LOG.position)];
 
 /**

@@ -16,24 +16,38 @@ const [BLOCK, IF, END, CALL, CALL_INDIRECT, SELECT, SELECT_TYPED, GLOBAL_GET, GL
 const shown = (/** @type {unknown} */ value) => JSON.stringify(value, (_, item) => (typeof item === 'bigint' ? String(item) : item));
 const same = (/** @type {unknown} */ one, /** @type {unknown} */ other) => shown(one) === shown(other);
 
-/** @param {boolean} isTrue @param {string} line @returns {asserts isTrue} */
+/**
+ * @param {boolean} isTrue
+ * @param {string} line
+ * @returns {asserts isTrue}
+ */
 function hold(isTrue, line) {
   if (!isTrue) throw new NotEqual(line);
 }
 
 /** A comparison of K with M, by which functions of M those of K are. */
 class Check {
-  /** @param {Uint8Array} kept @param {Uint8Array} module @param {Map<number, number>} places of functions of M in K */
+  /**
+   * @param {Uint8Array} kept
+   * @param {Uint8Array} module
+   * @param {Map<number, number>} places of functions of M in K
+   */
   constructor(kept, module, places) {
     this.k = contents(kept);
     this.m = contents(module);
     this.places = places;
-    /** The globals of M by those of K. @type {Map<number, number>} */
+    /**
+     * The globals of M by those of K.
+     * @type {Map<number, number>}
+     */
     this.globals = new Map();
     this.table = this.m.tables.indexOf(0x70);
   }
 
-  /** @param {Contents} c @param {number} index */
+  /**
+   * @param {Contents} c
+   * @param {number} index
+   */
   type(c, index) {
     return c.types[c.functions[index]];
   }
@@ -63,7 +77,11 @@ class Check {
     }
   }
 
-  /** @param {string} where @param {number} index @param {import('./reader.mjs').Body} kept */
+  /**
+   * @param {string} where
+   * @param {number} index
+   * @param {import('./reader.mjs').Body} kept
+   */
   body(where, index, kept) {
     const own = bodyAt(this.m, index - this.m.imported);
     hold(same(own.locals, kept.locals), `${where}: other locals`);
@@ -78,7 +96,13 @@ class Check {
     hold(at === kept.code.length, `${where}: more instructions`);
   }
 
-  /** Several results come through globals of K's own. @param {string} where @param {number[]} results @param {Instruction[]} code @param {number} from */
+  /**
+   * Several results come through globals of K's own.
+   * @param {string} where
+   * @param {number[]} results
+   * @param {Instruction[]} code
+   * @param {number} from
+   */
   results(where, results, code, from) {
     const numbers = results.map((type, place) => {
       const { op, values } = code[from + place] ?? item(0x00);
@@ -91,7 +115,10 @@ class Check {
     return from + results.length;
   }
 
-  /** @param {Instruction} own @param {Instruction} kept */
+  /**
+   * @param {Instruction} own
+   * @param {Instruction} kept
+   */
   isSame(own, kept) {
     const float = own.op === 0xfc ? SATURATING.get(own.second ?? -1) : FLOATS.get(own.op);
     if (float !== undefined && kept.op === CALL) return this.isFloatImport(float, Number(kept.values[0]));
@@ -104,13 +131,19 @@ class Check {
     return same(own.values, kept.values);
   }
 
-  /** @param {string} float @param {number} place */
+  /**
+   * @param {string} float
+   * @param {number} place
+   */
   isFloatImport(float, place) {
     const item_ = this.k.imports[place];
     return item_ !== undefined && item_.module.startsWith('float') && item_.name === float && ![...this.places.values()].includes(place);
   }
 
-  /** A block's type in one byte: -64 for none, or that of the value. @param {any} given */
+  /**
+   * A block's type in one byte: -64 for none, or that of the value.
+   * @param {any} given
+   */
   blockType(given) {
     if (given < 0n) return given;
     const { params, results } = this.m.types[Number(given)];
@@ -118,21 +151,31 @@ class Check {
     return results.length === 0 ? EMPTY : BigInt(results[0]) - 128n;
   }
 
-  /** @param {Instruction} own @param {Instruction} kept */
+  /**
+   * @param {Instruction} own
+   * @param {Instruction} kept
+   */
   isSameIndirectCall(own, kept) {
     const [type, table] = own.values.map(Number);
     const [other, otherTable] = kept.values.map(Number);
     return table === this.table && otherTable === 0 && same(this.m.types[type], this.k.types[other]);
   }
 
-  /** One global of M is one of K throughout. @param {number} own @param {number} kept */
+  /**
+   * One global of M is one of K throughout.
+   * @param {number} own
+   * @param {number} kept
+   */
   isSameGlobal(own, kept) {
     if (!this.globals.has(kept) && ![...this.globals.values()].includes(own)) this.globals.set(kept, own);
     return this.globals.get(kept) === own && same(this.m.globals[own], this.k.globals[kept]);
   }
 }
 
-/** @param {number} op @returns {Instruction} */
+/**
+ * @param {number} op
+ * @returns {Instruction}
+ */
 const item = op => ({ op, second: null, values: [] });
 
 /**

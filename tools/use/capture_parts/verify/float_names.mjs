@@ -2,7 +2,10 @@
 const names = (/** @type {number} */ first, /** @type {string} */ text) =>
   text.split(' ').map((word, place) => /** @type {[number, string]} */ ([first + place, word]));
 
-/** @param {string} type @param {string} text */
+/**
+ * @param {string} type
+ * @param {string} text
+ */
 const of = (type, text) => text.split(' ').map(word => `${type}.${word}`).join(' ');
 const COMPARED = 'eq ne lt gt le ge';
 const CALCULATED = 'abs neg ceil floor trunc nearest sqrt add sub mul div min max copysign';

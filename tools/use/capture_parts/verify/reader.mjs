@@ -7,7 +7,11 @@
 export class NotEqual extends Error {}
 
 class Bytes {
-  /** @param {Uint8Array} bytes @param {number} at @param {number} end */
+  /**
+   * @param {Uint8Array} bytes
+   * @param {number} at
+   * @param {number} end
+   */
   constructor(bytes, at, end) {
     this.bytes = bytes;
     this.at = at;
@@ -19,7 +23,10 @@ class Bytes {
     return this.bytes[this.at++];
   }
 
-  /** A LEB128 number of any length, as a text that equal numbers have in common. @param {boolean} isSigned */
+  /**
+   * A LEB128 number of any length, as a text that equal numbers have in common.
+   * @param {boolean} isSigned
+   */
   number(isSigned) {
     let [value, shift, byte] = [0n, 0n, 128];
     while (byte >= 128) {
@@ -34,7 +41,11 @@ class Bytes {
     return Number(this.number(false));
   }
 
-  /** @template T @param {() => T} item @returns {T[]} */
+  /**
+   * @template T
+   * @param {() => T} item
+   * @returns {T[]}
+   */
   vector(item) {
     const list = [];
     for (let left = this.count(); left > 0; left--) list.push(item());
@@ -72,7 +83,10 @@ function limits(r) {
   r.number(false);
   if (flags % 2 === 1) r.number(false);
 }
-/** Skips a constant expression. @param {Bytes} r */
+/**
+ * Skips a constant expression.
+ * @param {Bytes} r
+ */
 function skipExpression(r) {
   while (instruction(r).op !== 0x0b);
 }
@@ -101,7 +115,10 @@ export function contents(bytes) {
   return found;
 }
 
-/** @param {Bytes} r @param {Contents} found */
+/**
+ * @param {Bytes} r
+ * @param {Contents} found
+ */
 function readImports(r, found) {
   for (let left = r.count(); left > 0; left--) {
     const [module, name, kind] = [r.text(), r.text(), r.next()];
@@ -129,7 +146,10 @@ function immediates(/** @type {number} */ op) {
   if ([0x00, 0x01, 0x05, 0x0b, 0x0f, 0x1a, 0x1b].includes(op) || (op >= 0x45 && op <= 0xc4)) return '';
   throw new NotEqual(`the instruction 0x${op.toString(16)} is not one of a kept part`);
 }
-/** The same behind the prefix 0xfc. @param {number} op */
+/**
+ * The same behind the prefix 0xfc.
+ * @param {number} op
+ */
 function immediatesBehindPrefix(op) {
   if (op < 8) return '';
   if (op === 10) return 'uu';
@@ -137,14 +157,20 @@ function immediatesBehindPrefix(op) {
   throw new NotEqual(`the instruction 0xfc ${op} is not one of a kept part`);
 }
 
-/** @param {Bytes} r @param {string} form */
+/**
+ * @param {Bytes} r
+ * @param {string} form
+ */
 function immediate(r, form) {
   if (form === 'u') return r.number(false);
   if (form === 's' || form === 'b') return r.number(true);
   return form === 'v' ? r.vector(() => r.number(false)) : r.raw(Number(form));
 }
 
-/** @param {Bytes} r @returns {Instruction} */
+/**
+ * @param {Bytes} r
+ * @returns {Instruction}
+ */
 function instruction(r) {
   const op = r.next();
   const second = op === 0xfc ? r.count() : null;
@@ -152,7 +178,12 @@ function instruction(r) {
   return { op, second, values: [...forms].map(form => immediate(r, form)) };
 }
 
-/** A body. @param {Contents} m @param {number} place among the defined functions @returns {Body} */
+/**
+ * A body.
+ * @param {Contents} m
+ * @param {number} place among the defined functions
+ * @returns {Body}
+ */
 export function bodyAt(m, place) {
   const [begin, end] = m.bodies[place];
   const r = new Bytes(m.bytes, begin, end);
