@@ -14,14 +14,18 @@ const THEN = 100;
  */
 function stackLines() {
   const settings = /** @type {any} */ (Error);
-  const { stackTraceLimit, prepareStackTrace } = settings;
+  const names = ['stackTraceLimit', 'prepareStackTrace'];
+  const before = names.map(name => Object.getOwnPropertyDescriptor(settings, name));
   try {
     settings.stackTraceLimit = Infinity;
     settings.prepareStackTrace = undefined;
     return linesOf(new Error().stack);
   } finally {
-    settings.stackTraceLimit = stackTraceLimit;
-    settings.prepareStackTrace = prepareStackTrace;
+    names.forEach((name, place) => {
+      const descriptor = before[place];
+      if (descriptor === undefined) delete settings[name];
+      else Object.defineProperty(settings, name, descriptor);
+    });
   }
 }
 /** @param {unknown} stack */

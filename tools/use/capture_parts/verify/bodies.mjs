@@ -14,7 +14,18 @@ const [BLOCK, IF, END, CALL, CALL_INDIRECT, SELECT, SELECT_TYPED, GLOBAL_GET, GL
   [0x02, 0x04, 0x0b, 0x10, 0x11, 0x1b, 0x1c, 0x23, 0x24, -64n];
 
 const shown = (/** @type {unknown} */ value) => JSON.stringify(value, (_, item) => (typeof item === 'bigint' ? String(item) : item));
-const same = (/** @type {unknown} */ one, /** @type {unknown} */ other) => shown(one) === shown(other);
+
+/**
+ * Whether two values are the same, with all that is in them.
+ * @param {any} one
+ * @param {any} other
+ * @returns {boolean}
+ */
+function same(one, other) {
+  if (typeof one !== 'object' || one === null || typeof other !== 'object' || other === null) return one === other;
+  const keys = Object.keys(one);
+  return keys.length === Object.keys(other).length && keys.every(key => same(one[key], other[key]));
+}
 
 /**
  * @param {boolean} isTrue
@@ -36,6 +47,8 @@ class Check {
     this.k = contents(kept);
     this.m = contents(module);
     this.places = places;
+    /** The places in K of functions of M. */
+    this.taken = new Set(places.values());
     /**
      * The globals of M by those of K.
      * @type {Map<number, number>}
@@ -54,7 +67,7 @@ class Check {
 
   /** The functions of K are different ones, and have the types of theirs in M. */
   functions() {
-    hold(new Set(this.places.values()).size === this.places.size, 'two functions of M have the same place in K');
+    hold(this.taken.size === this.places.size, 'two functions of M have the same place in K');
     for (const [index, place] of this.places) {
       hold(index < this.m.functions.length && place < this.k.functions.length, `function ${index} has the place ${place}`);
       const [own, other] = [this.type(this.m, index), this.type(this.k, place)];
@@ -136,8 +149,8 @@ class Check {
    * @param {number} place
    */
   isFloatImport(float, place) {
-    const item_ = this.k.imports[place];
-    return item_ !== undefined && item_.module.startsWith('float') && item_.name === float && ![...this.places.values()].includes(place);
+    const found = this.k.imports[place];
+    return found !== undefined && found.module.startsWith('float') && found.name === float && !this.taken.has(place);
   }
 
   /**
