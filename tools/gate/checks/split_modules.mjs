@@ -122,8 +122,7 @@ class Body {
     if (kind === 3) return this.setLocal(value);
     if (kind === 4) return this.callStatement(value);
     if (kind === 5) return [value(I32), 0x04, 0x40, this.statement(depth - 1), this.statement(depth - 1), END];
-    if (kind === 6) return [this.address(depth), this.address(depth), value(I32), 0x41, 0x3f, 0x71, 0xfc, 10, 0, 0];
-    if (kind === 7) return [this.address(depth), value(I32), value(I32), 0x41, 0x3f, 0x71, 0xfc, 11, 0];
+    if (kind === 6 || kind === 7) return random.chance(60) ? this.rangeOfCells(kind === 6, value) : this.range(kind === 6, depth, value);
     if (kind <= 9) return this.cell(value);
     if (kind === 10) return this.loop(depth);
     if (kind === 11) return this.branches(depth, value);
@@ -150,6 +149,22 @@ class Body {
     const index = this.random.below(this.module.signatures.length);
     const { params, results } = this.module.signatures[index];
     return [params.map(value), 0x10, u32(index), results.map(() => 0x1a)];
+  }
+
+  /** A copy or a fill. */
+  range(isCopy, depth, value) {
+    const count = [value(I32), 0x41, 0x3f, 0x71];
+    return isCopy ? [this.address(depth), this.address(depth), count, 0xfc, 10, 0, 0] : [this.address(depth), value(I32), count, 0xfc, 11, 0];
+  }
+
+  /** A copy or a fill among cells, one of which is read then. */
+  rangeOfCells(isCopy, value) {
+    const { random } = this;
+    const cell = () => [0x41, s32(4 * random.below(15))];
+    const [to, count] = [cell(), [0x41, s32(4 + random.below(20))]];
+    const done = isCopy ? [to, cell(), count, 0xfc, 10, 0, 0] : [to, value(I32), count, 0xfc, 11, 0];
+    const place = this.local(I32);
+    return [done, to, random.pick([0x28, 0x2d, 0x2e]), 0, 0, place === null ? 0x1a : [0x21, u32(place)]];
   }
 
   /** A cell is read, changed and read again. */

@@ -10,6 +10,7 @@ import { native } from './native.mjs';
 
 /** @typedef {import('../split/plan.mjs').Plan} Plan */
 /** @typedef {import('../../wasm/value_types.mjs').FunctionType} FunctionType */
+/** @typedef {import('./observers.mjs').Call} Call */
 
 const PAGE_WORDS = 16384;
 
@@ -22,7 +23,7 @@ const pagesFor = entries => Math.ceil((entries + 1) / PAGE_WORDS);
  * @property {Plan} plan
  * @property {(index: number) => Function} functionOfRest
  * @property {(number: number, following: number[]) => void} action
- * @property {(place: number, type: FunctionType, target: (...args: any[]) => any) => Function} importObserver
+ * @property {(place: number, type: FunctionType, calls: Call[]) => Function} importObserver `calls` has what is called
  * @property {<T>(step: () => T, otherwise: T) => T} guarded
  */
 
@@ -161,8 +162,8 @@ export class Entries {
     const { params, results } = type;
     const place = this.plan.callees.length + this.plan.floats.length + this.foreign.size;
     const number = FIRST_FOREIGN - this.foreign.size;
-    const calls = [func];
-    const observer = this.surroundings.importObserver(place, type, (...args) => calls[0](...args));
+    const calls = [/** @type {Call} */ (func)];
+    const observer = this.surroundings.importObserver(place, type, calls);
     const bridge = native.exports(bridgeBytes([type], false), { js: { 0: observer }, target: { 0: func } });
     if (isBridged(type)) calls[0] = bridge['in.0'];
     this.foreign.set(func, { number, own: bridge['out.0'] });

@@ -52,6 +52,93 @@ export class Log {
     this.crossing(kind, number, isWide, values);
   }
 
+  /** Room for one more entry: the word it begins at. */
+  place() {
+    if (this.words[LOG.position] > this.words[LOG.limit]) this.flush();
+    return this.words[LOG.position] >> 2;
+  }
+
+  /** One more call: the word it begins at. */
+  callPlace() {
+    if ((++this.words[LOG.crossings] & (LOOK - 1)) === 0) this.look();
+    return this.place();
+  }
+
+  /**
+   * Calls with no, one, two and three arguments of 32 bits. `first` is the first word.
+   * @param {number} first
+   */
+  call0(first) {
+    const at = this.callPlace();
+    this.words[at] = first;
+    this.words[LOG.position] = (at + 1) << 2;
+  }
+
+  /**
+   * @param {number} first
+   * @param {number} a
+   */
+  call1(first, a) {
+    const at = this.callPlace();
+    const { words } = this;
+    words[at] = first;
+    words[at + 1] = a;
+    words[LOG.position] = (at + 2) << 2;
+  }
+
+  /**
+   * @param {number} first
+   * @param {number} a
+   * @param {number} b
+   */
+  call2(first, a, b) {
+    const at = this.callPlace();
+    const { words } = this;
+    words[at] = first;
+    words[at + 1] = a;
+    words[at + 2] = b;
+    words[LOG.position] = (at + 3) << 2;
+  }
+
+  /**
+   * @param {number} first
+   * @param {number} a
+   * @param {number} b
+   * @param {number} c
+   */
+  call3(first, a, b, c) {
+    const at = this.callPlace();
+    const { words } = this;
+    words[at] = first;
+    words[at + 1] = a;
+    words[at + 2] = b;
+    words[at + 3] = c;
+    words[LOG.position] = (at + 4) << 2;
+  }
+
+  /**
+   * A return without a result.
+   * @param {number} first
+   */
+  return0(first) {
+    const at = this.place();
+    this.words[at] = first;
+    this.words[LOG.position] = (at + 1) << 2;
+  }
+
+  /**
+   * A return with a result of 32 bits.
+   * @param {number} first
+   * @param {number} result
+   */
+  return1(first, result) {
+    const at = this.place();
+    const { words } = this;
+    words[at] = first;
+    words[at + 1] = result;
+    words[LOG.position] = (at + 2) << 2;
+  }
+
   /**
    * @param {number} kind
    * @param {number} number

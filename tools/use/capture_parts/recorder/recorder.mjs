@@ -128,7 +128,7 @@ export class Recorder {
     this.connectShadow(state);
     this.entries = new Entries({ plan, functionOfRest: index => this.ofRest(REST_NAMES.function(index)),
       action: (number, following) => this.action(number, following),
-      importObserver: (place, type, target) => importObserver(this, place, type, target),
+      importObserver: (place, type, calls) => importObserver(this, place, type, calls, 0),
       guarded: (step, otherwise) => this.guarded(step, otherwise) }, this.table);
     this.kept = this.keptInstance(keptModule);
     this.entries.connect(this.kept);
@@ -168,7 +168,7 @@ export class Recorder {
     const types = calleeTypes(plan).slice(0, plan.callees.length);
     const targets = plan.callees.map(index => this.ofRest(REST_NAMES.function(index)));
     const calls = [...targets];
-    const observers = types.map((type, place) => importObserver(this, place, type, (...args) => calls[place](...args)));
+    const observers = types.map((type, place) => importObserver(this, place, type, calls, place));
     const bridge = native.exports(bridgeBytes(types, false), { js: { ...observers }, target: { ...targets } });
     types.forEach((type, place) => { if (isBridged(type)) calls[place] = bridge[`in.${place}`]; });
     const floats = native.exports(floatBytes(plan), { js: { flush: () => this.guarded(() => this.log.flush(), undefined) },
