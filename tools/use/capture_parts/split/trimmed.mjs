@@ -63,6 +63,12 @@ function calleeNames({ m, names }, index) {
 }
 
 /**
+ * The module name of float instructions, which no import of M has.
+ * @param {Plan} plan
+ */
+const floatModule = ({ m }) => (m.imports.some(item => item.module === 'float') ? 'float instructions' : 'float');
+
+/**
  * @param {string[][]} wanted pairs of names
  * @param {(place: number) => string} more
  */
@@ -107,7 +113,7 @@ export function trimmedPlan(plan, slots, contents) {
   const floats = plan.floats.filter(op => ops.has(op));
   const { hasOther } = contents;
   const imports = callees.length + floats.length + Number(hasOther);
-  const wanted = [...callees.map(index => calleeNames(plan, index)), ...floats.map(op => ['float', instructionName(op)]),
+  const wanted = [...callees.map(index => calleeNames(plan, index)), ...floats.map(op => [floatModule(plan), instructionName(op)]),
     ...hasOther ? [['rest', OTHER_NAME]] : []];
   const names = new Names();
   const exported = new Set([...hostCalled, ...contents.setFunctions]);
