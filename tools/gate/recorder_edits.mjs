@@ -77,6 +77,8 @@ const CROSSINGS = [
   edit('several results come in the wrong order', 'record/kept_view.mjs',
     '"value":${scriptValue(type, values[index])}', '"value":${scriptValue(type, values[types.length - 1 - index])}'),
   edit('floats are not given as unsigned numbers', 'record/values.mjs', 'isFloat(type) ? unsigned(type, bits) : bits', 'bits'),
+  edit('a fault of the recorder reaches the program', 'recorder/recorder.mjs',
+    'this.ownFault(fault);\n      return otherwise;', 'throw fault;'),
   edit('a cut record ends within K', 'record/events.mjs', 'if (kind === IMPORT_CALL ||', 'if (kind === IMPORT_CALL || kind === HOST_CALL ||'),
 ];
 

@@ -61,7 +61,8 @@ class Test {
     const random = new Random(seed);
     this.module = new RandomModule(random, random.chance(25));
     this.random = new Random(seed + 77);
-    this.sums = { whole: 0, several: 0, foreign: 0, over: 0, cut: 0, crossings: 0, turns: 0, kept: 0, functions: 0, skipped: 0 };
+    this.isFaulty = this.random.chance(4);
+    this.sums = { whole: 0, several: 0, foreign: 0, over: 0, cut: 0, faults: 0, crossings: 0, turns: 0, kept: 0, functions: 0, skipped: 0 };
   }
 
   file(name) {
@@ -84,8 +85,9 @@ class Test {
     if (recorder === null) return;
     const split = this.splitRun(recorder, module);
     const other = difference(plain, split);
-    if (recorder.fault !== null) fail(`the recorder: ${recorder.fault}`);
     if (other !== null) fail(`the split module differs from the module ${other}`);
+    if (this.isFaulty) return this.faulty(recorder);
+    if (recorder.fault !== null) fail(`the recorder: ${recorder.fault}`);
     recorder.end('exit');
     const bytes = Buffer.concat(recorder.chunks);
     if (recorder.over?.by === 'overflow') this.sums.skipped++;
@@ -93,9 +95,24 @@ class Test {
     if (this.random.chance(20)) this.cutCapture(bytes);
   }
 
+  /** A sink that fails behind the first chunks, which instantiation gives it. */
+  faultySink() {
+    let chunks = 0;
+    return () => { if (++chunks > 2) throw new Error('the sink is full'); };
+  }
+
+  /** The recorder has failed, if it has given the sink anything; the program has gone on as it is. */
+  faulty(recorder) {
+    recorder.flush();
+    if (recorder.log.crossings > 0 && recorder.fault !== 'the sink is full') fail(`the recorder has noted the fault ${recorder.fault}`);
+    this.sums.faults++;
+  }
+
   recorder() {
     try {
-      return new Recorder(planOf(this.module.bytes, this.choice()), { isHashing: true, accesses: this.random.pick([0, 1, 3, 24]) });
+      const plan = planOf(this.module.bytes, this.choice());
+      const sink = this.isFaulty ? this.faultySink() : undefined;
+      return new Recorder(plan, { isHashing: true, accesses: this.random.pick([0, 1, 3, 24]), sink });
     } catch (error) {
       if (!(error instanceof NotSplit)) throw error;
       this.sums.skipped++;
