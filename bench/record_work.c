@@ -1,4 +1,5 @@
-/* The program of bench/record_cost: sorts, checksums and hashes as many numbers as it is asked for. */
+/* The program of bench/record_cost: sorts, checksums and hashes as many numbers as it is asked for.
+   clang --target=wasm32 -O2 -ffreestanding -fno-builtin -nostdlib -Wl,--no-entry -Wl,--strip-all -o record_work.wasm record_work.c */
 #include <stdint.h>
 
 #define MOST (1 << 18)
