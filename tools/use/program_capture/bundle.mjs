@@ -1,6 +1,6 @@
 /**
- * Makes one script of a module of this repository and all that it imports, for pages and their workers. It knows the forms
- * of imports and exports that these modules have, and refuses others.
+ * Makes one script of a module of this repository and all that it imports, for pages and their workers. It knows the
+ * forms of imports and exports that these modules have, and refuses others.
  */
 import fs from 'node:fs';
 
@@ -11,10 +11,15 @@ const LIST = /^export \{([^}]*)\}(?:\s+from '(\.[^']*)')?;$/gm;
 /** @param {string} list */
 const names = list => list.split(',').map(name => name.trim()).filter(name => name !== '');
 
-/** The text of a module as a function's body that gives its exports; `place` gives the place of a module that it imports. */
+/**
+ * The text of a module as a function's body that gives its exports.
+ * @param {URL} file
+ * @param {(url: URL) => number} place gives the place of a module that it imports
+ */
 function body(file, place) {
+  /** @type {string[]} */
   const exported = [];
-  const text = fs.readFileSync(file, 'utf8')
+  const text = /** @type {string} */ (fs.readFileSync(file, 'utf8'))
     .replace(IMPORT, (_, list, from) => {
       const renamed = names(list).map(name => name.replace(/ as /, ': ')).join(', ');
       return `const { ${renamed} } = modules[${place(new URL(from, file))}];`;
@@ -25,7 +30,8 @@ function body(file, place) {
     })
     .replace(LIST, (_, list, from) => {
       exported.push(...names(list));
-      return from === undefined ? '' : `const { ${names(list).join(', ')} } = modules[${place(new URL(from, file))}];`;
+      if (from === undefined) return '';
+      return `const { ${names(list).join(', ')} } = modules[${place(new URL(from, file))}];`;
     });
   const left = /^(?:import|export)\b.*/m.exec(text);
   if (left !== null) throw new Error(`${file}: a form that a bundle does not know: ${left[0]}`);
@@ -37,15 +43,17 @@ function body(file, place) {
  * @param {URL} entry
  */
 export function bundle(entry) {
+  /** @type {Map<string, number>} */
   const places = new Map();
+  /** @type {string[]} */
   const parts = [];
-  const place = url => {
-    if (!places.has(url.href)) {
-      const text = body(url, place);
-      places.set(url.href, parts.length);
-      parts.push(`modules.push((() => {\n${text}\n})());`);
-    }
-    return places.get(url.href);
+  const place = (/** @type {URL} */ url) => {
+    const found = places.get(url.href);
+    if (found !== undefined) return found;
+    const text = body(url, place);
+    places.set(url.href, parts.length);
+    parts.push(`modules.push((() => {\n${text}\n})());`);
+    return parts.length - 1;
   };
   const last = place(entry);
   return `(() => {\nconst modules = [];\n${parts.join('\n')}\nreturn modules[${last}];\n})()`;

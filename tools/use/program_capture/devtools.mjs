@@ -3,14 +3,14 @@ import { spawn } from 'node:child_process';
 import fs from 'node:fs';
 import os from 'node:os';
 import path from 'node:path';
-import { refuse } from '../capture_parts/refusal.mjs';
+import { Refusal } from '../capture_parts/refusal.mjs';
 
 const NAMES = ['chromium', 'chromium-browser', 'google-chrome'];
 
 /** How long a browser may take to answer its first message. */
 const START = 60000;
 
-const isExecutable = file => {
+const isExecutable = (/** @type {string} */ file) => {
   try {
     fs.accessSync(file, fs.constants.X_OK);
     return fs.statSync(file).isFile();
@@ -19,26 +19,42 @@ const isExecutable = file => {
   }
 };
 
-/** The file of a command on the path, or undefined. */
+/**
+ * The file of a command on the path, or undefined.
+ * @param {string} name
+ * @returns {string | undefined}
+ */
 function onPath(name) {
-  return (process.env.PATH ?? '').split(':').map(folder => path.join(folder, name)).find(isExecutable);
+  const folders = /** @type {string[]} */ ((process.env.PATH ?? '').split(':'));
+  return folders.map(folder => path.join(folder, name)).find(isExecutable);
 }
 
 /**
  * The file of the browser: the given one, or the first of those that are on the path.
  * @param {string | null} given
+ * @returns {string}
  */
 export function browserFile(given) {
-  if (given !== null) return isExecutable(given) ? given : onPath(given) ?? refuse(`there is no browser ${given}`);
-  const found = NAMES.map(onPath).find(file => file !== undefined);
-  return found ?? refuse(`a page needs a browser: none of ${NAMES.join(', ')} is installed, and --browser FILE names none`);
+  const found = given === null ? NAMES.map(onPath).find(file => file !== undefined)
+    : isExecutable(given) ? given : onPath(given);
+  if (found !== undefined) return found;
+  if (given !== null) throw new Refusal(`there is no browser ${given}`);
+  throw new Refusal(`a page needs a browser: none of ${NAMES.join(', ')} is installed, and --browser FILE names none`);
 }
 
+/**
+ * The browser's words. Its sandbox is off only for root, for whom it does not start with one.
+ * @param {string} profile a folder
+ */
 function browserWords(profile) {
-  return ['--headless', '--remote-debugging-pipe', `--user-data-dir=${profile}`, ...process.getuid?.() === 0 ? ['--no-sandbox'] : [],
-    '--no-first-run', '--no-default-browser-check', '--disable-dev-shm-usage', '--disable-background-networking',
-    '--disable-component-update', '--disable-sync', '--disable-extensions', '--js-flags=--stack-size=3900',
-    '--disable-background-timer-throttling', '--disable-renderer-backgrounding', '--hide-scrollbars', '--window-size=1024,768', 'about:blank'];
+  const sandbox = process.getuid() === 0 ? ['--no-sandbox'] : [];
+  return [
+    '--headless', '--remote-debugging-pipe', `--user-data-dir=${profile}`, ...sandbox, '--no-first-run',
+    '--no-default-browser-check', '--disable-dev-shm-usage', '--disable-background-networking',
+    '--disable-component-update', '--disable-sync', '--disable-extensions', '--disable-background-timer-throttling',
+    '--disable-renderer-backgrounding', '--hide-scrollbars', '--js-flags=--stack-size=3900',
+    '--window-size=1024,768', 'about:blank',
+  ];
 }
 
 export class Browser {
@@ -51,38 +67,38 @@ export class Browser {
     /** @type {(message: any) => void} */
     this.onEvent = () => {};
     this.rest = '';
-    this.child = spawn(file, browserWords(this.profile), { stdio: ['ignore', 'ignore', 'ignore', 'pipe', 'pipe'], detached: true });
+    this.isGone = false;
+    const stdio = ['ignore', 'ignore', 'ignore', 'pipe', 'pipe'];
+    this.child = spawn(file, browserWords(this.profile), { stdio, detached: true });
+    /** @type {Promise<void>} */
     this.ended = new Promise(resolve => {
       this.child.on('exit', resolve);
       this.child.on('error', resolve);
     }).then(() => this.left());
-    const [, , , input, output] = /** @type {any} */ (this.child.stdio);
+    const [, , , input, output] = this.child.stdio;
     this.input = input;
     input.on('error', () => {});
     output.setEncoding('utf8');
-    output.on('data', text => this.read(text));
+    output.on('data', (/** @type {string} */ text) => this.read(text));
   }
 
   /** Waits until the browser answers. */
   async start() {
     let timer;
-    const late = new Promise((_, reject) => { timer = setTimeout(() => reject(new Error('no answer')), START); });
-    try {
-      await Promise.race([this.call('Browser.getVersion'), late]);
-    } catch (error) {
-      await this.close();
-      refuse(`the browser ${this.child.spawnfile} does not start: ${error.message}`);
-    } finally {
-      clearTimeout(timer);
-    }
+    const late = new Promise(resolve => { timer = setTimeout(resolve, START, null); });
+    const answer = await Promise.race([this.call('Browser.getVersion').catch(() => null), late]);
+    clearTimeout(timer);
+    if (answer === null) throw new Refusal(`the browser ${this.child.spawnfile} does not start`);
   }
 
+  /** @param {string} text */
   read(text) {
     const pieces = (this.rest + text).split('\0');
     this.rest = pieces.pop() ?? '';
     for (const piece of pieces) this.take(JSON.parse(piece));
   }
 
+  /** @param {any} message */
   take(message) {
     if (message.id === undefined) {
       this.onEvent(message);

@@ -1,18 +1,16 @@
 /** `context.hostFunction` of a host file: a function of JavaScript as one that a table takes. */
+import { KIND, exportItem, importItem, moduleBytes } from '../wasm/assembler.mjs';
+import { F32, F64, I32, I64 } from '../wasm/value_types.mjs';
 import { native } from './interface.mjs';
 
-const BYTES = { i32: 0x7f, i64: 0x7e, f32: 0x7d, f64: 0x7c };
+/** @type {Map<string, number>} */
+const TYPES = new Map([['i32', I32], ['i64', I64], ['f32', F32], ['f64', F64]]);
 
-const types = list => [list.length & 127 | (list.length > 127 ? 128 : 0), ...list.length > 127 ? [list.length >> 7] : [],
-  ...list.map(type => BYTES[type])];
-
-/** The bytes of a module that exports as `f` the function `h.f`, which it imports with this type. */
-function passingBytes(params, results) {
-  const type = [1, 0x60, ...types(params), ...types(results)];
-  const size = type.length;
-  return Uint8Array.from([0, 0x61, 0x73, 0x6d, 1, 0, 0, 0, 1, size & 127 | 128, size >> 7, ...type, 2, 7, 1, 1, 0x68, 1, 0x66, 0, 0,
-    7, 5, 1, 1, 0x66, 0, 0]);
-}
+/**
+ * The types of these names.
+ * @param {string[]} list
+ */
+const typesOf = list => list.map(type => TYPES.get(type) ?? 0);
 
 /**
  * @param {string} name is not needed here: functions in the table have names of the capture's own
@@ -20,10 +18,15 @@ function passingBytes(params, results) {
  * @param {Function} func
  */
 export function functionOfHost(name, { params = [], results = [] } = {}, func) {
-  if ([...params, ...results].some(type => !(type in BYTES)) || params.length > 1000 || results.length > 1) {
-    throw new TypeError(`the host's function ${name}: it has at most 1000 params and one of results, each i32, i64, f32 or f64`);
+  if ([...params, ...results].some(type => !TYPES.has(type)) || params.length > 1000 || results.length > 1) {
+    const most = 'it has at most 1000 params and one of results, each i32, i64, f32 or f64';
+    throw new TypeError(`the host's function ${name}: ${most}`);
   }
   if (typeof func !== 'function') throw new TypeError(`the host's function ${name}: no function is given for it`);
-  const module = new native.Module(passingBytes(params, results));
-  return new native.Instance(module, { h: { f: func } }).exports.f;
+  const bytes = moduleBytes({
+    types: [{ params: typesOf(params), results: typesOf(results) }],
+    imports: [importItem('h', 'f', KIND.function, 0)],
+    exports: [exportItem('f', KIND.function, 0)],
+  });
+  return new native.Instance(new native.Module(bytes), { h: { f: /** @type {any} */ (func) } }).exports.f;
 }

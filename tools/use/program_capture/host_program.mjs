@@ -9,6 +9,7 @@ const found = await import(pathToFileURL(hostFile).href);
 const host = found.host ?? found.default?.host;
 if (typeof host !== 'function') throw new Error(`${hostFile} exports no function host(context)`);
 const module = await WebAssembly.compile(fs.readFileSync(file));
+/** @type {any} */
 const context = { module, file, words, folders, environment, hostFunction: functionOfHost, instance: undefined };
 const { imports, main } = await host(context) ?? {};
 context.instance = await WebAssembly.instantiate(module, imports ?? {});

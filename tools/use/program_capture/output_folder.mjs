@@ -1,6 +1,6 @@
 /**
- * The folder of a capture: it is missing, empty or an earlier capture. What is written goes to a folder beside it, which
- * takes its name at the end. The log of a run is in a third folder, `NAME.log`, which stays there if the run is killed.
+ * The folder of a capture: it is missing, empty or an earlier capture. What is written goes to a folder beside it,
+ * which takes its name at the end. The log of a run is in a third one, `NAME.log`, which stays if the run is killed.
  */
 import fs from 'node:fs';
 import path from 'node:path';
@@ -12,7 +12,10 @@ export const MARK = 'r3 capture';
 const FILES = ['module.wasm', 'script.json', 'decls.json', 'replay.wasm', 'report.json', 'report.txt', 'page.png'];
 const INNER = /^instance-\d+$/;
 
-/** Whether a report is that of a capture. */
+/**
+ * Whether a report is that of a capture.
+ * @param {string} file
+ */
 function isReport(file) {
   try {
     return JSON.parse(fs.readFileSync(file, 'utf8')).made_by === MARK;
@@ -21,14 +24,22 @@ function isReport(file) {
   }
 }
 
-/** Whether a folder has nothing but a capture. */
-function isCapture(folder, isInner = false) {
-  const names = fs.readdirSync(folder);
-  return isReport(path.join(folder, 'report.json')) && names.every(name => FILES.includes(name)
-    || (!isInner && INNER.test(name) && fs.statSync(path.join(folder, name)).isDirectory() && isCapture(path.join(folder, name), true)));
+/**
+ * Whether a folder has nothing but a capture, or captures of instances in folders of their own.
+ * @param {string} folder
+ * @returns {boolean}
+ */
+function isCapture(folder) {
+  const isInner = (/** @type {string} */ name) => INNER.test(name) && fs.statSync(path.join(folder, name)).isDirectory()
+    && isCapture(path.join(folder, name));
+  const names = /** @type {string[]} */ (fs.readdirSync(folder));
+  return isReport(path.join(folder, 'report.json')) && names.every(name => FILES.includes(name) || isInner(name));
 }
 
-/** Refuses a folder that may not be replaced. */
+/**
+ * Refuses a folder that may not be replaced.
+ * @param {string} folder
+ */
 function refuseTaken(folder) {
   let entry;
   try {
@@ -37,21 +48,26 @@ function refuseTaken(folder) {
     return;
   }
   if (!entry.isDirectory()) refuse(`${folder} is no folder`);
-  if (fs.readdirSync(folder).length > 0 && !isCapture(folder)) refuse(`${folder} is neither empty nor an earlier capture`);
+  if (fs.readdirSync(folder).length === 0 || isCapture(folder)) return;
+  refuse(`${folder} is neither empty nor an earlier capture`);
 }
 
-/** Refuses the current folder and those that it is in, which cannot be replaced. */
+/**
+ * Refuses the current folder and those that it is in, which cannot be replaced.
+ * @param {string} folder
+ */
 function refuseCurrent(folder) {
   const current = process.cwd();
-  if (current === folder || current.startsWith(folder + path.sep)) refuse(`${folder}: the current folder is there`);
+  if (!`${current}${path.sep}`.startsWith(`${folder}${path.sep}`)) return;
+  refuse(`${folder}: the current folder is there`);
 }
 
-const isRunning = id => {
+const isRunning = (/** @type {number} */ id) => {
   try {
     process.kill(id, 0);
     return true;
   } catch (error) {
-    return error.code === 'EPERM';
+    return /** @type {any} */ (error).code === 'EPERM';
   }
 };
 
@@ -60,10 +76,11 @@ export class OutputFolder {
   constructor(name) {
     const parent = path.dirname(path.resolve(name));
     try {
+      /** @type {string} */
       this.folder = path.join(fs.realpathSync(parent), path.basename(path.resolve(name)));
       fs.accessSync(parent, fs.constants.W_OK);
     } catch (error) {
-      refuse(`${name}: ${error.message}`);
+      refuse(`${name}: ${/** @type {Error} */ (error).message}`);
     }
     this.name = name;
     this.log = `${this.folder}.log`;
@@ -86,10 +103,14 @@ export class OutputFolder {
     fs.writeFileSync(path.join(this.log, 'process'), String(process.pid));
   }
 
-  /** The folder that is written to. */
+  /**
+   * The folder that is written to.
+   * @returns {string}
+   */
   beside() {
-    this.written ??= fs.mkdtempSync(`${this.folder}.new-`);
-    return this.written;
+    const written = this.written ?? fs.mkdtempSync(`${this.folder}.new-`);
+    this.written = written;
+    return written;
   }
 
   /** What is written takes the folder's name. */

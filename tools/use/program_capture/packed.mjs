@@ -5,12 +5,16 @@ import { STATUS, outputTo } from '../capture_parts/result.mjs';
 import { OwnFault } from './own_fault.mjs';
 import { MOST, program } from './r3_program.mjs';
 
-/** @typedef {{passed: 'script' | 'weight' | 'turns', text: string}} Limit a limit of r3 that a capture passes, with the cure */
-/** @typedef {{folder: string, limit: Limit | null, hasReplay: boolean}} Packed */
+/** @typedef {import('./types.mjs').Limit} Limit */
+/** @typedef {import('../capture_parts/record/capture.mjs').Capture} Capture */
 
 const PIECE = 1 << 20;
 
-/** Writes the pieces of a text. Gives the number of bytes. */
+/**
+ * Writes the pieces of a text. Gives the number of bytes.
+ * @param {string} file
+ * @param {Iterable<string>} pieces
+ */
 function writePieces(file, pieces) {
   const descriptor = fs.openSync(file, 'w');
   let [text, length] = ['', 0];
@@ -29,24 +33,42 @@ function writePieces(file, pieces) {
 
 const CURE = '--fit finds such a part by itself; --until N ends the record after N crossings';
 
-/** @param {number} length @returns {Limit} */
-const scriptLimit = length => ({ passed: 'script', text: `the script has ${length === Infinity ? 'far too many' : length} bytes, and r3 reads ${MOST.script}; ${CURE}` });
+/** @param {number | null} length null where it was not written @returns {Limit} */
+const scriptLimit = length => ({
+  passed: 'script', text: `the script has ${length ?? 'far too many'} bytes, and r3 reads ${MOST.script}; ${CURE}`,
+});
+/** @param {string} line @returns {Limit} */
+const weightLimit = line => ({
+  passed: 'weight',
+  text: `${line}: what the run needs of its host weighs more than ${MOST.weight}; ${CURE}, and so does less input`,
+});
 /** @returns {Limit} */
-const weightLimit = line => ({ passed: 'weight', text: `${line}: what the run needs of its host weighs more than ${MOST.weight}; ${CURE}, and so does less input` });
-/** @returns {Limit} */
-const turnsLimit = () => ({ passed: 'turns', text: `the run has more than ${MOST.turns} turns; ${CURE}, --under NAME keeps a part of the functions` });
+const turnsLimit = () => ({
+  passed: 'turns',
+  text: `the run has more than ${MOST.turns} turns; ${CURE}; --under NAME keeps a part of the functions`,
+});
 
-/** The words of a call of r3 for a capture. */
-export function callWords(command, folder, made, turns) {
-  const file = name => path.join(folder, name);
-  return made.declarations === null ? [command, file('module.wasm'), file('script.json'), String(turns)]
-    : [command === 'make' ? 'foreign' : `foreign-${command}`, file('module.wasm'), file('decls.json'), file('script.json'), String(turns)];
+/**
+ * The words by which r3 makes the replay.
+ * @param {string} folder
+ * @param {Capture} made
+ */
+function makeWords(folder, made) {
+  const file = (/** @type {string} */ name) => path.join(folder, name);
+  const declared = made.declarations === null ? [] : ['decls.json'];
+  const inputs = ['module.wasm', ...declared, 'script.json'].map(file);
+  return [made.declarations === null ? 'make' : 'foreign', ...inputs, String(MOST.turns)];
 }
 
-/** Makes the replay. @returns {Limit | null} */
+/**
+ * Makes the replay.
+ * @param {string} folder
+ * @param {Capture} made
+ * @returns {Limit | null}
+ */
 function makeReplay(folder, made) {
   const file = path.join(folder, 'replay.wasm');
-  const { status, line } = outputTo(program, callWords('make', folder, made, MOST.turns), file);
+  const { status, line } = outputTo(program, makeWords(folder, made), file);
   if (status === STATUS.done) return null;
   fs.rmSync(file);
   if (status === STATUS.tapeLimit) return weightLimit(line);
@@ -56,18 +78,18 @@ function makeReplay(folder, made) {
 
 /**
  * Writes what was made of a record to an empty folder.
- * @param {any} made
+ * @param {Capture} made
  * @param {string} folder
  * @param {boolean} isMaking whether the replay is made
- * @returns {Packed}
+ * @returns {import('./types.mjs').Packed}
  */
 export function packed(made, folder, isMaking) {
   fs.rmSync(folder, { recursive: true, force: true });
   fs.mkdirSync(folder);
   fs.writeFileSync(path.join(folder, 'module.wasm'), made.module);
   if (made.declarations !== null) fs.writeFileSync(path.join(folder, 'decls.json'), made.declarations);
-  const length = made.script === null ? Infinity : writePieces(path.join(folder, 'script.json'), made.script.pieces());
-  if (length > MOST.script) return { folder, limit: scriptLimit(length), hasReplay: false };
+  const length = made.script === null ? null : writePieces(path.join(folder, 'script.json'), made.script.pieces());
+  if (length === null || length > MOST.script) return { folder, limit: scriptLimit(length), hasReplay: false };
   const limit = isMaking ? makeReplay(folder, made) : null;
   return { folder, limit, hasReplay: isMaking && limit === null };
 }

@@ -1,17 +1,25 @@
 /** Where the command leaves what the documents and workers of a page send: the same files as those of a process. */
 import { FilePlace } from './file_place.mjs';
 
+/** @typedef {{number: number, sink: import('./types.mjs').Sink}} Begun */
+
 export class PagePlaces {
   /** @param {string} folder */
   constructor(folder) {
     this.folder = folder;
-    /** The places of sessions, in their order. @type {Map<string, FilePlace>} */
+    /**
+     * The places of sessions, in their order.
+     * @type {Map<string, FilePlace>}
+     */
     this.places = new Map();
-    /** The files of instances, by session, context and the number there. @type {Map<string, any>} */
-    this.sinks = new Map();
-    this.bytes = 0;
+    /**
+     * The instances, by session, context and the number there.
+     * @type {Map<string, Begun>}
+     */
+    this.instances = new Map();
   }
 
+  /** @param {string} session */
   place(session) {
     let place = this.places.get(session);
     if (place === undefined) {
@@ -21,31 +29,33 @@ export class PagePlaces {
     return place;
   }
 
+  /** @param {string} session */
   notes(session) {
     return this.place(session).notes();
   }
 
+  /** @param {string} session @param {number} context @param {any} message */
   received(session, context, message) {
     const place = this.place(session);
     if (message.fault !== undefined) place.fault(message.fault);
     else if (message.notes !== undefined) place.putNotes(message.notes);
-    else this.receivedOf(place, `${session} ${context} ${message.instance}`, message);
+    else if (message.bytes !== undefined) this.write(`${session} ${context} ${message.instance}`, message);
+    else this.instances.set(`${session} ${context} ${message.instance}`, place.begin());
   }
 
-  receivedOf(place, key, message) {
-    if (message.bytes === undefined) {
-      this.sinks.set(key, place.begin());
-      return;
-    }
-    const { number, sink } = this.sinks.get(key);
-    const bytes = Buffer.from(message.bytes, 'base64');
-    this.bytes += bytes.length;
-    if (message.put === undefined) sink.append(message.append, bytes);
-    else if (message.put === 'instance.json') sink.put(message.put, Buffer.from(JSON.stringify({ ...JSON.parse(bytes.toString()), number })));
-    else sink.put(message.put, bytes);
+  /** @param {string} key @param {{put?: string, append?: string, bytes: string}} message */
+  write(key, { put, append, bytes: text }) {
+    const found = this.instances.get(key);
+    if (found === undefined) return;
+    const { number, sink } = found;
+    const bytes = Buffer.from(text, 'base64');
+    if (append !== undefined) sink.append(append, bytes);
+    else if (put === 'instance.json') {
+      sink.put(put, Buffer.from(JSON.stringify({ ...JSON.parse(bytes.toString()), number })));
+    } else if (put !== undefined) sink.put(put, bytes);
   }
 
   end() {
-    for (const { sink } of this.sinks.values()) sink.end();
+    for (const { sink } of this.instances.values()) sink.end();
   }
 }

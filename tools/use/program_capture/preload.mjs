@@ -13,7 +13,7 @@ function takenSettings() {
   const text = process.env[VARIABLE];
   delete process.env[VARIABLE];
   setEnvironmentData(VARIABLE, text);
-  const own = process.execArgv.findIndex(word => word.startsWith('--stack-size'));
+  const own = process.execArgv.findIndex((/** @type {string} */ word) => word.startsWith('--stack-size'));
   process.execArgv.splice(own, 3);
   return text;
 }

@@ -7,7 +7,11 @@ const EVERY = 500;
 /** The crossings are in the last marks of a record, which are not far from its end. */
 const TAIL = 1 << 18;
 
-/** The end of a file as text. */
+/**
+ * The end of a file as text.
+ * @param {string} file
+ * @param {number} size
+ */
 function tail(file, size) {
   const bytes = Buffer.alloc(Math.min(TAIL, size));
   const descriptor = fs.openSync(file, 'r');
@@ -16,7 +20,10 @@ function tail(file, size) {
   return bytes.toString('latin1');
 }
 
-/** How many bytes and crossings the records of a run have. */
+/**
+ * How many bytes and crossings the records of a run have.
+ * @param {string} folder
+ */
 function amounts(folder) {
   const sum = { bytes: 0, crossings: 0 };
   for (const name of fs.readdirSync(folder)) {
@@ -42,7 +49,8 @@ export class Progress {
     const time = Date.now() - this.begin;
     if (time < FIRST) return;
     const { bytes, crossings } = amounts(this.folder);
-    process.stderr.write(`\r\x1b[Kcapture: ${crossings} crossings, ${bytes} bytes, ${Math.round(time / 1000)} seconds`);
+    const amount = `${crossings} crossings, ${bytes} bytes, ${Math.round(time / 1000)} seconds`;
+    process.stderr.write(`\r\x1b[Kcapture: ${amount}`);
     this.isShown = true;
   }
 

@@ -7,44 +7,36 @@ import { Inputs } from './inputs.mjs';
 import { Interface } from './interface.mjs';
 import { NotSplit, OwnFault, Recorder, planOf } from '../capture_parts/engine.mjs';
 
-/**
- * @typedef {object} Settings
- * @property {string} folder
- * @property {'all' | 'none'} floats
- * @property {string[] | null} keep
- * @property {string[] | null} under
- * @property {string[]} drop
- * @property {Record<string, object>} choices in a further run: the choices by the modules' digests
- * @property {string | null} module
- * @property {string[] | null} only in a further run: the digests of the modules that are recorded
- * @property {number | null} until
- * @property {boolean} isFirst
- */
-/** @typedef {{put: (name: string, bytes: Uint8Array) => void, append: (name: string, bytes: Uint8Array) => void, end: () => void}} Sink */
-/**
- * @typedef {object} Place where a realm leaves what it records
- * @property {() => object | null} notes
- * @property {(notes: object) => void} putNotes
- * @property {() => {number: number, sink: Sink}} begin
- * @property {(flush: () => void) => void} often calls a function from time to time
- * @property {(error: unknown) => void} fault
- */
+/** @typedef {import('./types.mjs').InstanceInfo} InstanceInfo */
+/** @typedef {import('./types.mjs').Sink} Sink */
+/** @typedef {(changes: Partial<InstanceInfo>) => void} Noted */
 
 const encoder = new TextEncoder();
 
 export const NOT_CHOSEN = 'it is not chosen';
+const NO_BYTES = 'the bytes of its module are not known here: another thread has made it';
+
+/** Exports that are noted of an instance. */
+const MOST_EXPORTS = 12;
+
+/** What the frames of the recording have in a stack. */
+const OWN_FRAMES = ['/program_capture/', '<anonymous>', '(native)'];
 
 /** Whether the frames next to here are those of Node.js itself, which has modules of its own. */
 function isOfNode() {
   const lines = (new Error().stack ?? '').split('\n').slice(1);
-  const first = lines.find(line => !line.includes('/program_capture/') && !line.includes('<anonymous>') && !line.includes('(native)'));
-  return first !== undefined && first.includes('node:internal/');
+  const first = lines.find(line => !OWN_FRAMES.some(part => line.includes(part)));
+  return first?.includes('node:internal/') ?? false;
 }
 
+/** @param {any} error */
+const stackOf = error => String(error?.stack ?? error);
+
 export class Session {
-  /** @param {Settings} settings @param {Place} place */
+  /** @param {import('./types.mjs').Settings} settings @param {import('./types.mjs').Place} place */
   constructor(settings, place) {
-    Object.assign(this, { settings, place });
+    this.settings = settings;
+    this.place = place;
     this.inputs = new Inputs(settings.isFirst ? null : place.notes());
     /** @type {{recorder: Recorder, sink: Sink}[]} */
     this.recorded = [];
@@ -57,74 +49,93 @@ export class Session {
     new Interface(this).install();
   }
 
-  /** Whether an instance is one of those that are wanted. */
-  isWanted({ number, digest: name, exports }) {
+  /**
+   * Whether an instance is one of those that are wanted.
+   * @param {InstanceInfo} info
+   * @param {string[]} exports all of them
+   */
+  isWanted({ number, digest: name }, exports) {
     const { only, module } = this.settings;
-    if (only !== null) return only.includes(name);
+    if (only !== null) return only.includes(name ?? '');
     return module === null || module === String(number) || module === name || exports.includes(module);
   }
 
+  /**
+   * The recording of a module that is to be instantiated, or null.
+   * @param {WebAssembly.Module} module
+   * @param {Uint8Array | undefined} bytes
+   */
   recordingOf(module, bytes) {
     const { number, sink } = this.place.begin();
     const exports = WebAssembly.Module.exports(module).map(({ name }) => name);
-    const info = { number, digest: bytes === undefined ? null : digest(bytes), size: bytes?.length ?? null,
-      exports: exports.slice(0, 12), isOfNode: isOfNode(), isRecorded: false, why: null };
-    const noted = changes => {
+    /** @type {InstanceInfo} */
+    const info = {
+      number, digest: bytes === undefined ? null : digest(bytes), size: bytes?.length ?? null,
+      exports: exports.slice(0, MOST_EXPORTS), isOfNode: isOfNode(), isRecorded: false, why: null,
+    };
+    const noted = (/** @type {Partial<InstanceInfo>} */ changes) => {
       Object.assign(info, changes);
       sink.put('instance.json', encoder.encode(JSON.stringify(info)));
     };
-    const recording = this.recording({ ...info, exports }, bytes, sink, noted);
-    noted({ isRecorded: recording !== null });
-    return recording;
+    if (bytes === undefined || !this.isWanted(info, exports)) {
+      noted({ why: bytes === undefined ? NO_BYTES : NOT_CHOSEN });
+      return null;
+    }
+    return this.begun(bytes, info.digest ?? '', sink, noted);
   }
 
-  /** The recording of an instance, or null; `noted` says why. */
-  recording(info, bytes, sink, noted) {
-    if (bytes === undefined) {
-      noted({ why: 'the bytes of its module are not known here: another thread has made it' });
-      return null;
-    }
-    if (!this.isWanted(info)) {
-      noted({ why: NOT_CHOSEN });
-      return null;
-    }
+  /** @param {Uint8Array} bytes @param {string} name @param {Sink} sink @param {Noted} noted */
+  begun(bytes, name, sink, noted) {
     try {
-      const { until } = this.settings;
-      const recorder = new Recorder(planOf(bytes, this.choice(info.digest)), { sink: chunk => this.write(sink, chunk),
-        until: until ?? undefined });
-      return this.begun(recorder, sink, noted);
+      const until = this.settings.until ?? undefined;
+      const plan = planOf(bytes, this.choice(name));
+      const recorder = new Recorder(plan, { sink: chunk => this.write(sink, chunk), until });
+      this.recorded.push({ recorder, sink });
+      noted({ isRecorded: true });
+      return this.recording(recorder, noted);
     } catch (error) {
-      noted({ why: error instanceof NotSplit ? error.message : error.stack });
+      noted({ why: error instanceof NotSplit ? error.message : stackOf(error) });
       return null;
     }
   }
 
+  /** @param {string} name a digest @returns {import('./types.mjs').Choice} */
   choice(name) {
     const { floats, keep, under, drop, choices } = this.settings;
     return choices[name] ?? { floats, keep, under, drop };
   }
 
-  /** The recording as the interface wants it. */
-  begun(recorder, sink, noted) {
-    this.recorded.push({ recorder, sink });
+  /**
+   * The recording as the interface wants it.
+   * @param {Recorder} recorder
+   * @param {Noted} noted
+   * @returns {import('./interface.mjs').Recording}
+   */
+  recording(recorder, noted) {
     return {
       parts: () => recorder.parts(),
       join: (imports, modules, memoryMaximum) => {
+        /** @type {any} */
         let exports;
-        exports = recorder.instantiate(this.inputs.ofWasi(imports, () => exports?.memory), modules, { memoryMaximum });
+        const given = this.inputs.ofWasi(imports, () => exports?.memory);
+        exports = recorder.instantiate(given, modules, { memoryMaximum });
         this.schedule();
         return exports;
       },
       isOwn: error => {
         if (recorder.kept !== undefined && !(error instanceof OwnFault)) return false;
         this.recorded = this.recorded.filter(item => item.recorder !== recorder);
-        noted({ isRecorded: false, why: error.message });
+        noted({ isRecorded: false, why: /** @type {any} */ (error)?.message ?? String(error) });
         return true;
       },
     };
   }
 
-  /** A part of a record. An error of the disk ends the record, and not the program. */
+  /**
+   * A part of a record. An error of the disk ends the record, and not the program.
+   * @param {Sink} sink
+   * @param {Uint8Array} chunk
+   */
   write(sink, chunk) {
     try {
       sink.append('record', chunk);
@@ -133,6 +144,7 @@ export class Session {
     }
   }
 
+  /** @param {WebAssembly.Table} table */
   tableChanged(table) {
     for (const { recorder } of this.recorded) recorder.tableChanged(table);
   }
@@ -150,7 +162,7 @@ export class Session {
     });
   }
 
-  /** The run is over. What follows is written too if this is called again. */
+  /** The run is over. */
   end() {
     for (const { recorder, sink } of this.recorded) {
       recorder.end('the program has ended');

@@ -1,6 +1,6 @@
 /**
- * The standard streams of a program that may be run more than once. The first run has those of the command. A further run
- * reads the same from standard input, and what it prints is left out unless it goes to a terminal.
+ * The standard streams of a program that may be run more than once. The first run has those of the command. A further
+ * run reads the same from standard input, and what it prints is left out unless it goes to a terminal.
  */
 import fs from 'node:fs';
 import path from 'node:path';
@@ -9,7 +9,10 @@ import { isatty } from 'node:tty';
 /** The command's own standard output: `tools/capture` gives it as this descriptor. */
 export const OUTPUT = 3;
 
-/** What a descriptor is: 'terminal', 'file', 'pipe' or 'other'. */
+/**
+ * What a descriptor is: 'terminal', 'file', 'pipe' or 'other'.
+ * @param {number} descriptor
+ */
 function kindOf(descriptor) {
   if (isatty(descriptor)) return 'terminal';
   try {
@@ -21,7 +24,10 @@ function kindOf(descriptor) {
   }
 }
 
-/** Where a file that is open is read next. */
+/**
+ * Where a file that is open is read next.
+ * @param {number} descriptor
+ */
 function position(descriptor) {
   try {
     return Number(/^pos:\s*(\d+)/m.exec(fs.readFileSync(`/proc/self/fdinfo/${descriptor}`, 'utf8'))?.[1] ?? 0);
@@ -30,7 +36,11 @@ function position(descriptor) {
   }
 }
 
-/** Opens a file anew, from which `from` bytes are read already. */
+/**
+ * Opens a file anew.
+ * @param {string} file
+ * @param {number} from how many of its bytes are read already
+ */
 function openedFrom(file, from) {
   const descriptor = fs.openSync(file, 'r');
   const piece = Buffer.alloc(65536);
@@ -56,9 +66,8 @@ export class StandardStreams {
   next() {
     const { isFirst } = this;
     this.isFirst = false;
-    /** @type {any[]} */
-    const streams = isFirst ? [this.input === 'pipe' ? 'pipe' : 0, OUTPUT, 2] : [this.again(), this.unseen(OUTPUT), this.unseen(2)];
-    return streams;
+    if (isFirst) return [this.input === 'pipe' ? 'pipe' : 0, OUTPUT, 2];
+    return [this.again(), this.unseen(OUTPUT), this.unseen(2)];
   }
 
   /** Standard input for a further run. */
@@ -67,7 +76,10 @@ export class StandardStreams {
     return this.input === 'pipe' && fs.existsSync(this.kept) ? 'pipe' : 0;
   }
 
-  /** Where a further run prints to: a terminal, or nowhere, by a descriptor of the same kind. */
+  /**
+   * Where a further run prints to: a terminal, or nowhere, by a descriptor of the same kind.
+   * @param {number} descriptor
+   */
   unseen(descriptor) {
     const kind = kindOf(descriptor);
     if (kind === 'terminal') return descriptor;
@@ -75,7 +87,12 @@ export class StandardStreams {
     return kind === 'pipe' ? 'pipe' : 'ignore';
   }
 
-  /** Connects a run that has begun. Gives how to end. @returns {() => Promise<void>} */
+  /**
+   * Connects a run that has begun. Gives how to end.
+   * @param {any} child
+   * @param {boolean} isFirst
+   * @returns {() => Promise<void>}
+   */
   connect(child, isFirst) {
     child.stdout?.resume();
     child.stderr?.resume();

@@ -7,9 +7,10 @@ const UNSTABLE = 'wasi_unstable';
 
 const module = await WebAssembly.compile(fs.readFileSync(file));
 const isUnstable = WebAssembly.Module.imports(module).some(item => item.module === UNSTABLE);
-const wasi = new WASI({ version: isUnstable ? 'unstable' : 'preview1', args: [name, ...words], env: environment,
-  preopens: Object.fromEntries(folders), returnOnExit: true });
-const instance = await WebAssembly.instantiate(module, { [isUnstable ? UNSTABLE : 'wasi_snapshot_preview1']: wasi.wasiImport });
+const [version, from] = isUnstable ? ['unstable', UNSTABLE] : ['preview1', 'wasi_snapshot_preview1'];
+const preopens = Object.fromEntries(folders);
+const wasi = new WASI({ version, args: [name, ...words], env: environment, preopens, returnOnExit: true });
+const instance = await WebAssembly.instantiate(module, { [from]: wasi.wasiImport });
 try {
   if (instance.exports._start === undefined) wasi.initialize(instance);
   else process.exitCode = wasi.start(instance);

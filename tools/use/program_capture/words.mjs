@@ -1,37 +1,13 @@
 /** The words of `capture -o FOLDER`, which captures a program as it is. */
 import { WordsFault } from '../capture_parts/words.mjs';
 
-/** @typedef {'node' | 'wasi' | 'host' | 'page'} Kind what runs the program */
-/** @typedef {'few' | 'all' | 'none'} Floats which float instructions of kept functions the host answers */
-/**
- * @typedef {object} Words
- * @property {boolean} help
- * @property {string | null} output the folder of the capture
- * @property {string | null} fromLog the folder of a log that an earlier run left behind
- * @property {Kind} kind
- * @property {string} program the program's file, or the address of a page that is served already
- * @property {string[]} words the program's own words
- * @property {string | null} host a host file
- * @property {string[] | null} keep names of functions, those alone are kept
- * @property {string[] | null} under names of functions, what they reach is kept
- * @property {string[]} drop names of functions that are not kept
- * @property {boolean} fit
- * @property {Floats} floats
- * @property {string | null} module a number, a digest or a name of the module that is taken
- * @property {boolean} all
- * @property {number | null} until the number of crossings after which the record ends
- * @property {string | null} browser
- * @property {number} seconds how long a page runs
- * @property {boolean} make
- * @property {[string, string][]} folders pairs of the name by which a WASI program opens a folder, and its path
- * @property {Record<string, string>} environment
- */
+/** @typedef {import('./types.mjs').Words} Words */
 
-export const usage = `usage: tools/capture -o FOLDER [OPTIONS] PROGRAM.js [WORDS..]          a program of Node.js (.js, .mjs, .cjs)
-       tools/capture -o FOLDER [OPTIONS] MODULE.wasm [WORDS..]         a program of WASI, preview 1
-       tools/capture -o FOLDER [OPTIONS] PAGE.html                     a page, in headless Chromium
-       tools/capture -o FOLDER [OPTIONS] --host HOST MODULE [WORDS..]  a module with a host file
-       tools/capture [-o FOLDER] --from-log FOLDER                     what a run that was killed left behind
+export const usage = `usage: tools/capture -o FOLDER [OPTIONS] PROGRAM.js [WORDS..]        a program of Node.js
+       tools/capture -o FOLDER [OPTIONS] MODULE.wasm [WORDS..]       a program of WASI, preview 1
+       tools/capture -o FOLDER [OPTIONS] PAGE.html                   a page, in headless Chromium
+       tools/capture -o FOLDER [OPTIONS] --host HOST MODULE [WORD..] a module with a host file
+       tools/capture [-o FOLDER] --from-log FOLDER                   what a run that was killed left behind
 
 Runs the program as it is, and writes to FOLDER a module, a script, their replay, and a report. FOLDER is missing,
 empty or an earlier capture. The program has this process's standard streams.
@@ -53,53 +29,90 @@ empty or an earlier capture. The program has this process's standard streams.
 --seconds N        a page that neither closes itself nor calls r3.done() runs so long; else 10 seconds
 `;
 
-/** Options without a value, by the property that they set and to what. */
-const FLAGS = { '--help': ['help', true], '--fit': ['fit', true], '--all': ['all', true], '--no-make': ['make', false],
-  '--relative': ['relative', true] };
-/** Options with a value that is kept as text. */
-const TEXTS = { '-o': 'output', '--from-log': 'fromLog', '--host': 'host', '--module': 'module', '--browser': 'browser' };
+/**
+ * Options without a value: the property that they set, and to what.
+ * @type {Record<string, [string, boolean]>}
+ */
+const FLAGS = {
+  '--help': ['help', true], '--fit': ['fit', true], '--all': ['all', true], '--no-make': ['make', false],
+  '--relative': ['relative', true],
+};
+/**
+ * Options with a value that is kept as text.
+ * @type {Record<string, string>}
+ */
+const TEXTS = {
+  '-o': 'output', '--from-log': 'fromLog', '--host': 'host', '--module': 'module', '--browser': 'browser',
+};
+/** @type {Record<string, string>} */
 const LISTS = { '--keep': 'keep', '--under': 'under', '--drop': 'drop' };
+/** @type {Record<string, string>} */
 const NUMBERS = { '--until': 'until', '--seconds': 'seconds' };
 const FLOATS = ['few', 'all', 'none'];
 
-const blank = () => ({ help: false, output: null, fromLog: null, kind: 'node', program: '', words: [], host: null, keep: null,
-  under: null, drop: [], fit: false, floats: 'few', module: null, all: false, until: null, browser: null, seconds: 10,
-  make: true, relative: false, folders: [['.', '.']], environment: {} });
+/** Options that only this form of the command has, which say which form it is. */
+const OWN = ['-o', '--from-log', '--host'];
+const WITH_VALUE = [
+  ...Object.keys(TEXTS), ...Object.keys(LISTS), ...Object.keys(NUMBERS), '--floats', '--dir', '--env', '--decls',
+];
 
-/** Whether the words, up to the first that is no option, have one that only this form of the command has. */
+/** @returns {Words} */
+const blank = () => ({
+  help: false, relative: false, output: null, fromLog: null, kind: 'node', program: '', words: [], host: null,
+  keep: null, under: null, drop: [], fit: false, floats: 'few', module: null, all: false, until: null, browser: null,
+  seconds: 10, make: true, folders: [['.', '.']], environment: {},
+});
+
+/**
+ * Whether the words, up to the first that is no option, have one of this form alone.
+ * @param {string[]} given
+ */
 export function isProgramForm(given) {
-  const own = ['-o', '--from-log', '--host'];
-  const withValue = [...own, '--dir', '--env', '--decls', '--module', '--browser', ...Object.keys(LISTS), ...Object.keys(NUMBERS), '--floats'];
-  for (let at = 0; given[at]?.startsWith('-'); at += withValue.includes(given[at]) ? 2 : 1) {
-    if (own.includes(given[at])) return true;
+  for (let at = 0; given[at]?.startsWith('-'); at += WITH_VALUE.includes(given[at]) ? 2 : 1) {
+    if (OWN.includes(given[at])) return true;
   }
   return false;
 }
 
+/** @param {string[]} left */
 function value(left) {
   const text = left.shift();
   if (text === undefined || text === '') throw new WordsFault();
   return text;
 }
 
+/** @param {string} text */
 function number(text) {
   if (!/^[1-9]\d{0,14}$/.test(text)) throw new WordsFault();
   return Number(text);
 }
 
-/** Reads `--dir FOLDER[::NAME]` or `--env NAME=VALUE` into a list of pairs. */
+/**
+ * Reads `FOLDER[::NAME]` or `NAME=VALUE` as a pair.
+ * @param {string} text
+ * @param {string} separator
+ * @returns {[string, string | null]}
+ */
 function pair(text, separator) {
   const [name, ...rest] = text.split(separator);
   if (name === '') throw new WordsFault();
   return [name, rest.length > 0 ? rest.join(separator) : null];
 }
 
-/** Reads one option with its value. */
+/**
+ * Reads one option with its value.
+ * @param {string} word
+ * @param {string[]} left
+ * @param {any} words
+ */
 function readOption(word, left, words) {
-  if (word in FLAGS) words[FLAGS[word][0]] = FLAGS[word][1];
-  else if (word in TEXTS) words[TEXTS[word]] = value(left);
-  else if (word in LISTS) words[LISTS[word]] = [...words[LISTS[word]] ?? [], ...value(left).split(',').filter(name => name !== '')];
-  else if (word in NUMBERS) words[NUMBERS[word]] = number(value(left));
+  if (word in FLAGS) {
+    const [name, flag] = FLAGS[word];
+    words[name] = flag;
+  } else if (word in TEXTS) words[TEXTS[word]] = value(left);
+  else if (word in LISTS) {
+    words[LISTS[word]] = [...words[LISTS[word]] ?? [], ...value(left).split(',').filter(name => name !== '')];
+  } else if (word in NUMBERS) words[NUMBERS[word]] = number(value(left));
   else if (word === '--floats') {
     words.floats = value(left);
     if (!FLOATS.includes(words.floats)) throw new WordsFault();
@@ -112,18 +125,28 @@ function readOption(word, left, words) {
   } else throw new WordsFault();
 }
 
-/** What runs a program, by the name of its file. */
-export function kindOf(program, host) {
+/**
+ * Whether a program is the address of a page that is served already.
+ * @param {string} program
+ */
+export const isAddress = program => /^http:\/\/(127\.0\.0\.1|localhost)[:/]/.test(program);
+
+/**
+ * What runs a program, by the name of its file.
+ * @param {string} program
+ * @param {string | null} host
+ */
+function kindOf(program, host) {
   if (host !== null) return 'host';
-  if (/^http:\/\/(127\.0\.0\.1|localhost)[:/]/.test(program) || /\.html?$/i.test(program)) return 'page';
+  if (isAddress(program) || /\.html?$/i.test(program)) return 'page';
   return /\.wasm$/i.test(program) ? 'wasi' : 'node';
 }
 
-/** @returns {Words} */
+/** @param {string[]} given */
 export function readProgramWords(given) {
   const words = blank();
   const left = [...given];
-  while (left[0]?.startsWith('-')) readOption(left.shift(), left, words);
+  while (left[0]?.startsWith('-')) readOption(/** @type {string} */ (left.shift()), left, words);
   if (words.help) return words;
   if (words.fromLog === null && (words.output === null || left.length === 0)) throw new WordsFault();
   words.program = left.shift() ?? '';
