@@ -30,9 +30,16 @@ export class RandomHost {
     /** Functions of the host's own, by the imports whose types they have. */
     this.own = new Map();
     this.memory = module.importsMemory ? new WebAssembly.Memory({ initial: 1, maximum: 4 }) : null;
-    this.table = module.importsTable ? new WebAssembly.Table({ element: 'anyfunc', initial: module.tableSize, maximum: 16 }) : null;
+    this.table = module.importsTable
+      ? new WebAssembly.Table({ element: 'anyfunc', initial: module.tableSize, maximum: 16 }) : null;
     if (this.memory !== null) new Uint8Array(this.memory.buffer).set([1, 2, 3, 4, 5], 400);
-    if (this.table !== null) for (let place = 0; place < module.tableSize; place++) this.table.set(place, this.ownFunction(place % IMPORTS));
+    if (this.table !== null) this.fillTable();
+  }
+
+  /** The table has functions of the host's own before the module is there. */
+  fillTable() {
+    for (let place = 0; place < this.module.tableSize; place++) this.table.set(place,
+        this.ownFunction(place % IMPORTS));
   }
 
   imports() {
@@ -50,9 +57,11 @@ export class RandomHost {
   /** A function of the host's own, made by another module as programs do it. */
   ownFunction(index) {
     if (!this.own.has(index)) {
-      const bytes = moduleBytes({ types: [this.module.signatures[index]], imports: [importItem('h', 'f', KIND.function, 0)],
+      const bytes = moduleBytes({ types: [this.module.signatures[index]],
+        imports: [importItem('h', 'f', KIND.function, 0)],
         exports: [exportItem('f', KIND.function, 0)] });
-      const instance = new WebAssembly.Instance(new WebAssembly.Module(bytes), { h: { f: (...args) => this.answer(index, args) } });
+      const instance = new WebAssembly.Instance(new WebAssembly.Module(bytes),
+        { h: { f: (...args) => this.answer(index, args) } });
       this.hooks.instanceMade();
       this.own.set(index, instance.exports.f);
     }
@@ -80,7 +89,8 @@ export class RandomHost {
   writeBytes() {
     const { random } = this;
     const bytes = new Uint8Array(this.exports.memory.buffer);
-    for (let at = random.below(random.chance(40) ? 60 : 1100), left = 1 + random.below(30); left > 0; left--) bytes[at++] = random.bits();
+    const begin = random.below(random.chance(40) ? 60 : 1100);
+    for (let count = random.below(30); count >= 0; count--) bytes[begin + count] = random.bits();
   }
 
   setGlobal() {
@@ -127,7 +137,8 @@ export class RandomHost {
     const { random } = this;
     if (random.chance(20)) return null;
     if (random.chance(25)) return this.ownFunction(random.below(IMPORTS));
-    return random.chance(50) ? table.get(random.below(table.length)) : this.exports[`e${random.pick(this.module.exported)}`];
+    return random.chance(50)
+      ? table.get(random.below(table.length)) : this.exports[`e${random.pick(this.module.exported)}`];
   }
 
   growTable() {

@@ -1,6 +1,7 @@
 /**
  * Random modules for the tests of splits: functions that call imports, each other and the table, with floats, several
- * results, references, exceptions, tail calls, passive segments and growth. Each call of a function takes fuel, so all end.
+ * results, references, exceptions, tail calls, passive segments and growth. Each call of a function takes fuel, so all
+ * end.
  */
 import { exportItem, importItem, moduleBytes, KIND, TypeList } from '../../use/wasm/assembler.mjs';
 import { constant, flat, s32, u32, vector } from '../../use/wasm/encoding.mjs';
@@ -9,9 +10,12 @@ import { F32, F64, FUNCREF, I32, I64 } from '../../use/wasm/value_types.mjs';
 const TYPES = [I32, I32, I32, I64, F32, F64];
 const END = 0x0b;
 export const FIRST_FUEL = 60;
-const LOADS = { [I32]: [0x28, 0x2c, 0x2d, 0x2e, 0x2f], [I64]: [0x29, 0x30, 0x31, 0x32, 0x33, 0x34, 0x35], [F32]: [0x2a], [F64]: [0x2b] };
-const STORES = [[0x36, I32], [0x37, I64], [0x38, F32], [0x39, F64], [0x3a, I32], [0x3b, I32], [0x3c, I64], [0x3d, I64], [0x3e, I64]];
-const MAIN_IMPORTS = [{ params: [I32, I32], results: [I32] }, { params: [I64, F64], results: [F64] }, { params: [], results: [] },
+const LOADS = { [I32]: [0x28, 0x2c, 0x2d, 0x2e, 0x2f], [I64]: [0x29, 0x30, 0x31, 0x32, 0x33, 0x34, 0x35], [F32]: [0x2a],
+  [F64]: [0x2b] };
+const STORES = [[0x36, I32], [0x37, I64], [0x38, F32], [0x39, F64], [0x3a, I32], [0x3b, I32], [0x3c, I64], [0x3d, I64],
+  [0x3e, I64]];
+const MAIN_IMPORTS = [{ params: [I32, I32], results: [I32] }, { params: [I64, F64], results: [F64] },
+  { params: [], results: [] },
   { params: [F32], results: [F32] }];
 export const IMPORTS = MAIN_IMPORTS.length + 1;
 
@@ -25,7 +29,7 @@ class Body {
     const { random } = this;
     if (type === I32) return constant(I32, random.chance(60) ? random.below(300) - 20 : random.bits());
     if (type === I64) return constant(I64, BigInt(random.bits()) * (random.chance(50) ? 1n : 4294967291n));
-    if (type === F32) return constant(F32, BigInt(random.chance(70) ? 0x3f800000 + random.below(99999) : random.bits()));
+    if (type === F32) return constant(F32, random.chance(70) ? 0x3f800000 + random.below(99999) : random.bits());
     const wild = BigInt(random.bits()) << 32n | BigInt(random.bits());
     return constant(F64, random.chance(70) ? 0x3ff0000000000000n + BigInt(random.bits()) : wild);
   }
@@ -47,7 +51,8 @@ class Body {
     if (kind <= 3) return this.call(type, inner);
     if (kind === 4 || kind >= 12) return this.indirectCall(type, inner);
     if (kind === 5) return [inner(I32), 0x04, type, this.statement(depth - 1), inner(type), 0x05, inner(type), END];
-    if (kind === 6) return [inner(type), inner(type), inner(I32), random.chance(module.isPlain ? 0 : 20) ? [0x1c, 1, type] : 0x1b];
+    const select = random.chance(module.isPlain ? 0 : 20) ? [0x1c, 1, type] : 0x1b;
+    if (kind === 6) return [inner(type), inner(type), inner(I32), select];
     if (kind === 7 && type === I32) return random.chance(80) ? [0x3f, 0] : [0x41, 1, 0x40, 0];
     return this.calculation(type, inner);
   }
@@ -97,7 +102,8 @@ class Body {
     const one = (other, ops) => [inner(other), random.pick(ops)];
     const floats = !module.isPlain && random.chance(40);
     if (type === I32) {
-      if (floats) return random.pick([() => pair(F64, [0x61, 0x63]), () => pair(F32, [0x5b, 0x5d]), () => one(F32, [[0xfc, 0], [0xfc, 1]]),
+      if (floats) return random.pick([() => pair(F64, [0x61, 0x63]), () => pair(F32, [0x5b, 0x5d]),
+          () => one(F32, [[0xfc, 0], [0xfc, 1]]),
         () => one(F64, random.chance(90) ? [[0xfc, 2], [0xfc, 3]] : [0xaa])])();
       return random.pick([() => pair(I32, [0x6a, 0x6b, 0x6c, 0x71, 0x72, 0x73, 0x74, 0x75, 0x76, 0x46, 0x48, 0x4f]),
         () => one(I32, [0x45, 0x67, 0x68, 0xc0, 0xc1]), () => one(I64, [0xa7, 0x50]), () => one(F32, [0xbc]),
@@ -105,10 +111,12 @@ class Body {
     }
     if (type === I64) {
       if (floats) return one(F64, [[0xfc, 6], [0xfc, 7]]);
-      return random.pick([() => pair(I64, [0x7c, 0x7d, 0x7e, 0x83, 0x85, 0x86]), () => one(I32, [0xac, 0xad]), () => one(F64, [0xbd])])();
+      return random.pick([() => pair(I64, [0x7c, 0x7d, 0x7e, 0x83, 0x85, 0x86]), () => one(I32, [0xac, 0xad]),
+        () => one(F64, [0xbd])])();
     }
-    if (type === F32) return floats ? random.pick([() => pair(F32, [0x92, 0x94, 0x98]), () => one(I32, [0xb2])])() : one(I32, [0xbe]);
-    return floats ? random.pick([() => pair(F64, [0xa0, 0xa2, 0xa6]), () => one(I32, [0xb7]), () => one(F32, [0xbb])])() : one(I64, [0xbf]);
+    if (!floats) return type === F32 ? one(I32, [0xbe]) : one(I64, [0xbf]);
+    if (type === F32) return random.pick([() => pair(F32, [0x92, 0x94, 0x98]), () => one(I32, [0xb2])])();
+    return random.pick([() => pair(F64, [0xa0, 0xa2, 0xa6]), () => one(I32, [0xb7]), () => one(F32, [0xbb])])();
   }
 
   /** Instructions that leave the stack as it is. */
@@ -122,7 +130,7 @@ class Body {
     if (kind === 3) return this.setLocal(value);
     if (kind === 4) return this.callStatement(value);
     if (kind === 5) return [value(I32), 0x04, 0x40, this.statement(depth - 1), this.statement(depth - 1), END];
-    if (kind === 6 || kind === 7) return random.chance(60) ? this.rangeOfCells(kind === 6, value) : this.range(kind === 6, depth, value);
+    if (kind === 6 || kind === 7) return this.range(kind === 6, depth, value);
     if (kind <= 9) return this.cell(value);
     if (kind === 10) return this.loop(depth);
     if (kind === 11) return this.branches(depth, value);
@@ -153,8 +161,10 @@ class Body {
 
   /** A copy or a fill. */
   range(isCopy, depth, value) {
+    if (this.random.chance(60)) return this.rangeOfCells(isCopy, value);
     const count = [value(I32), 0x41, 0x3f, 0x71];
-    return isCopy ? [this.address(depth), this.address(depth), count, 0xfc, 10, 0, 0] : [this.address(depth), value(I32), count, 0xfc, 11, 0];
+    if (isCopy) return [this.address(depth), this.address(depth), count, 0xfc, 10, 0, 0];
+    return [this.address(depth), value(I32), count, 0xfc, 11, 0];
   }
 
   /** A copy or a fill among cells, one of which is read then. */
@@ -188,8 +198,10 @@ class Body {
   }
 
   branches(depth, value) {
-    if (this.random.chance(50)) return [0x02, 0x40, this.statement(depth - 1), value(I32), 0x0d, 0, this.statement(depth - 1), END];
-    return [0x02, 0x40, 0x02, 0x40, value(I32), 0x0e, 1, 0, 1, this.statement(depth - 1), END, this.statement(depth - 1), END];
+    if (this.random.chance(50)) return [0x02, 0x40, this.statement(depth - 1), value(I32), 0x0d, 0,
+        this.statement(depth - 1), END];
+    return [0x02, 0x40, 0x02, 0x40, value(I32), 0x0e, 1, 0, 1, this.statement(depth - 1), END,
+      this.statement(depth - 1), END];
   }
 
   /** What keeps a function out of the kept part. */
@@ -200,8 +212,10 @@ class Body {
     switch (random.below(6)) {
       case 0: case 1: return [entry(), func(), 0x26, 0];
       case 2: return [0x06, 0x40, this.statement(depth - 1), 0x19, this.statement(depth - 1), END];
-      case 3: return [this.address(depth), 0x41, s32(random.below(4)), 0x41, s32(random.below(4)), 0xfc, 8, u32(module.passive), 0];
-      case 4: return [random.chance(30) ? [func(), 0x41, 1, 0xfc, 15, 0, 0x1a] : [entry(), entry(), 0x41, 1, 0xfc, 14, 0, 0]];
+      case 3: return [this.address(depth), 0x41, s32(random.below(4)), 0x41, s32(random.below(4)), 0xfc, 8,
+        u32(module.passive), 0];
+      case 4: return [random.chance(30) ? [func(), 0x41, 1, 0xfc, 15, 0, 0x1a] : [entry(), entry(), 0x41, 1, 0xfc, 14,
+        0, 0]];
       default: return [this.address(depth), this.literal(I64), 0xfd, 18, 0xfd, 11, 0, 0];
     }
   }
@@ -222,7 +236,8 @@ export class RandomModule {
       this.signatures.push(random.chance(40) ? random.pick(MAIN_IMPORTS) : { params: this.some(3), results });
     }
     this.globals = [I32, ...Array.from({ length: 3 }, () => random.pick(TYPES))];
-    [this.importsMemory, this.importsTable, this.exportsTable] = [random.chance(25), random.chance(25), random.chance(60)];
+    [this.importsMemory, this.importsTable, this.exportsTable] = [random.chance(25), random.chance(25),
+      random.chance(60)];
     this.addEntries();
     this.build();
   }
@@ -267,22 +282,27 @@ export class RandomModule {
     this.signatures.forEach(item => types.index(item));
     const defined = this.signatures.slice(IMPORTS);
     const [memory, table] = [[1, 1, 5], [FUNCREF, 1, u32(this.tableSize), 20]];
-    const imports = this.signatures.slice(0, IMPORTS).map((item, place) => importItem('h', `f${place}`, KIND.function, u32(types.index(item))));
+    const imports = this.signatures.slice(0, IMPORTS).map((item, place) =>
+      importItem('h', `f${place}`, KIND.function, u32(types.index(item))));
     if (this.importsMemory) imports.push(importItem('h', 'memory', KIND.memory, memory));
     if (this.importsTable) imports.push(importItem('h', 'table', KIND.table, table));
     this.data = random.list(3, () => Array.from({ length: random.below(40) }, () => random.below(256)));
     this.passive = this.data.length;
     const bodies = defined.map(item => this.body(item));
-    const starts = defined.flatMap((item, place) => (item.params.length + item.results.length === 0 ? [place + IMPORTS] : []));
+    const starts = defined.flatMap((item, place) =>
+      (item.params.length + item.results.length === 0 ? [place + IMPORTS] : []));
     this.start = starts.length > 0 && random.chance(40) ? starts[0] : null;
     this.bytes = moduleBytes({ types: types.list, imports, functions: defined.map(item => types.index(item)), bodies,
-      tables: this.importsTable ? [] : [table], memories: this.importsMemory ? [] : [memory], globals: this.globalItems(),
-      exports: this.exportItems(), start: this.start, elements: this.elementItems(), data: this.dataItems(), countsData: !this.isPlain });
+      tables: this.importsTable ? [] : [table], memories: this.importsMemory ? [] : [memory],
+      globals: this.globalItems(),
+      exports: this.exportItems(), start: this.start, elements: this.elementItems(), data: this.dataItems(),
+      countsData: !this.isPlain });
   }
 
   globalItems() {
     const body = new Body(this, this.random, []);
-    return this.globals.map((type, place) => [type, 1, place === 0 ? constant(I32, FIRST_FUEL) : body.literal(type), END]);
+    return this.globals.map((type, place) => [type, 1, place === 0 ? constant(I32, FIRST_FUEL) : body.literal(type),
+      END]);
   }
 
   exportItems() {
@@ -290,8 +310,10 @@ export class RandomModule {
     const all = this.signatures.map((_, index) => index);
     this.exported = all.filter(index => index === IMPORTS || random.chance(45));
     this.exportedGlobals = this.globals.flatMap((_, place) => (place > 0 && random.chance(50) ? [place] : []));
-    return [...this.exported.map(index => exportItem(`e${index}`, KIND.function, index)), exportItem('fuel', KIND.global, 0),
-      ...this.exportedGlobals.map(place => exportItem(`g${place}`, KIND.global, place)), exportItem('memory', KIND.memory, 0),
+    return [...this.exported.map(index => exportItem(`e${index}`, KIND.function, index)),
+      exportItem('fuel', KIND.global, 0),
+      ...this.exportedGlobals.map(place => exportItem(`g${place}`, KIND.global, place)),
+      exportItem('memory', KIND.memory, 0),
       ...this.exportsTable ? [exportItem('table', KIND.table, 0)] : []];
   }
 

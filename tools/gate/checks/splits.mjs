@@ -1,10 +1,11 @@
 #!/usr/bin/env node
 /**
  * Random modules that are split at random, under random hosts. The split module must do what the module does: results,
- * traps, memory, globals, names and identity of functions. What is written of it must be M's bodies, and r3 must do exactly
- * what was seen: crossings with all values, and what each load of the kept part gave.
+ * traps, memory, globals, names and identity of functions. What is written of it must be M's bodies, and r3 must do
+ * exactly what was seen: crossings with all values, and what each load of the kept part gave.
  *
- *   splits.mjs R3 FIRST LAST [FOLDER]   seeds; the last line is 'N passed, M failed', and one before it what was covered
+ *   splits.mjs R3 FIRST LAST [FOLDER]   seeds; the last line is 'N passed, M failed', and one before it what was
+ * covered
  */
 import fs from 'node:fs';
 import os from 'node:os';
@@ -32,7 +33,8 @@ const fail = line => { throw new Failure(line); };
 
 /** The first place where two lists differ, with what is there, or null. */
 function difference(one, other) {
-  const at = Array.from({ length: Math.max(one.length, other.length) }).findIndex((_, place) => one[place] !== other[place]);
+  const at = Array.from({ length: Math.max(one.length, other.length) }).findIndex((_, place) =>
+    one[place] !== other[place]);
   return at === -1 ? null : `at ${at}: ${one[at]} | ${other[at]}`;
 }
 
@@ -62,7 +64,8 @@ class Test {
     this.module = new RandomModule(random, random.chance(25));
     this.random = new Random(seed + 77);
     this.isFaulty = this.random.chance(4);
-    this.sums = { whole: 0, several: 0, foreign: 0, over: 0, cut: 0, faults: 0, crossings: 0, turns: 0, kept: 0, functions: 0, skipped: 0 };
+    this.sums = { whole: 0, several: 0, foreign: 0, over: 0, cut: 0, faults: 0, crossings: 0, turns: 0, kept: 0,
+      functions: 0, skipped: 0 };
   }
 
   file(name) {
@@ -80,7 +83,8 @@ class Test {
   run() {
     const { module, seed } = this;
     const compiled = new WebAssembly.Module(module.bytes);
-    const plain = new RandomHost(module, seed, NO_HOOKS).run(imports => new WebAssembly.Instance(compiled, imports).exports);
+    const plain = new RandomHost(module, seed, NO_HOOKS).run(imports =>
+      new WebAssembly.Instance(compiled, imports).exports);
     const recorder = this.recorder();
     if (recorder === null) return;
     const split = this.splitRun(recorder, module);
@@ -104,7 +108,8 @@ class Test {
   /** The recorder has failed, if it has given the sink anything; the program has gone on as it is. */
   faulty(recorder) {
     recorder.flush();
-    if (recorder.log.crossings > 0 && recorder.fault !== 'the sink is full') fail(`the recorder has noted the fault ${recorder.fault}`);
+    const isNoted = recorder.log.crossings === 0 || recorder.fault === 'the sink is full';
+    if (!isNoted) fail(`the recorder has noted the fault ${recorder.fault}`);
     this.sums.faults++;
   }
 
@@ -125,7 +130,8 @@ class Test {
     const parts = recorder.parts().map(bytes => new WebAssembly.Module(bytes));
     const hooks = { tableChanged: table => recorder.tableChanged(table), instanceMade: () => recorder.instanceMade(),
       turn: () => recorder.flush() };
-    const most = { memoryMaximum: module.importsMemory ? 4 : undefined, tableMaximum: module.importsTable ? 16 : undefined };
+    const most = { memoryMaximum: module.importsMemory ? 4 : undefined, tableMaximum: module.importsTable
+      ? 16 : undefined };
     return new RandomHost(module, this.seed, hooks).run(imports => {
       const exports = recorder.instantiate(imports, parts, most);
       return Object.fromEntries(recorder.plan.m.exports.map(({ name }) => [name, exports[name]]));
@@ -140,7 +146,8 @@ class Test {
     const { lines, seen, declared } = this.compared(made);
     if (record.end.over === null) {
       const hash = hashOf(lines, made.module, declared);
-      if (hash !== BigInt.asUintN(64, recorder.kept.hash.value)) fail('the loads of r3 give other values than those that were seen');
+      const seenHash = BigInt.asUintN(64, recorder.kept.hash.value);
+      if (hash !== seenHash) fail('the loads of r3 give other values than those that were seen');
     }
     this.count(made, record, lines, seen);
   }
@@ -182,7 +189,8 @@ class Test {
     const seen = [...made.outline()];
     const other = difference(lines.filter(isCrossing), seen);
     if (other !== null) fail(`r3's crossings differ from those that were seen ${other}`);
-    if ((lines.at(-1) !== 'ended') !== made.endsByTrap) fail(`r3's run has ${lines.at(-1)}, and traps was ${made.endsByTrap}`);
+    const isTrap = lines.at(-1) !== 'ended';
+    if (isTrap !== made.endsByTrap) fail(`r3's run has ${lines.at(-1)}, and traps was ${made.endsByTrap}`);
     this.replay(made, inputs, seen);
     return { lines, seen, declared: made.declarations === null ? 0 : JSON.parse(made.declarations).length };
   }
@@ -197,7 +205,8 @@ class Test {
   }
 
   replay(made, inputs, seen) {
-    const ran = spawnSync(this.r3, [inputs.length === 2 ? 'make' : 'foreign', ...inputs, TURNS], { maxBuffer: MOST_OUTPUT });
+    const ran = spawnSync(this.r3, [inputs.length === 2 ? 'make' : 'foreign', ...inputs, TURNS],
+      { maxBuffer: MOST_OUTPUT });
     if (ran.status !== 0) fail(`r3 make: status ${ran.status} ${String(ran.stderr).trim()}`);
     const lines = [];
     const end = runObserved(ran.stdout, made.counts, (kind, number, types, values) => {

@@ -1,6 +1,7 @@
 /**
- * The engine of `r3 capture`: splits a module M into a kept part K, which r3 takes, and the rest R; runs both in place of
- * M; and records what crosses the border. Here is what an interceptor of WebAssembly's interface and the command need.
+ * The engine of `r3 capture`: splits a module M into a kept part K, which r3 takes, and the rest R; runs both in place
+ * of M; and records what crosses the border. Here is what an interceptor of WebAssembly's interface and the command
+ * need.
  *
  * In the program (Node.js, a page, a worker), for each instance that is recorded:
  *
@@ -9,10 +10,10 @@
  *     const modules = recorder.parts();             // the bytes of R and of K: to be compiled, at once or later
  *     const exports = recorder.instantiate(imports, compiled, { memoryMaximum });
  *
- * `exports` are R's: the program gets those of M's export names alone, with their values as they are. `instantiate` throws
- * what instantiation throws in the program (link errors, traps of the start function), or `OwnFault` before any code of
- * the program has run: then M is instantiated as it is. `memoryMaximum` is what `new WebAssembly.Memory` was given for an
- * imported memory (null for none, undefined where it is not known).
+ * `exports` are R's: the program gets those of M's export names alone, with their values as they are. `instantiate`
+ * throws what instantiation throws in the program (link errors, traps of the start function), or `OwnFault` before any
+ * code of the program has run: then M is instantiated as it is. `memoryMaximum` is what `new WebAssembly.Memory` was
+ * given for an imported memory (null for none, undefined where it is not known).
  *
  * The interceptor reports what the recorder cannot see:
  *
@@ -29,8 +30,8 @@
  *     const record = readRecord(bytes);             // all chunks, one after another; a cut last chunk is left out
  *     const made = captureOf(record, { whole });    // whole: r3 takes M as it is
  *
- * `made` has the files and what the report says, and `nextChoice(made, choice, limits)` says whether the run is to be done
- * again, and with which choice. `checkBodies(made.module, record.m.bytes)` is the independent check.
+ * `made` has the files and what the report says, and `nextChoice(made, choice, limits)` says whether the run is to be
+ * done again, and with which choice. `checkBodies(made.module, record.m.bytes)` is the independent check.
  *
  * A choice is `{ keep, under, drop, floats }`: lists of names or numbers of functions, or null for `keep` and `under`;
  * `floats` is 'few', 'all' or 'none'.

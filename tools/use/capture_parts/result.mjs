@@ -5,8 +5,8 @@
  *     record.until = N;                                    // maybe: only the first N crossings
  *     const whole = isTaken(r3, file);                     // whether r3 takes the module as it is: M in a file
  *     const made = captureOf(record, { whole });
- *     made.module, made.script.pieces(), made.declarations // the files; `script` is null where it would be far too long
- *     made.report                                          // lists by names: kept, entered, left, floats, inwards, outwards, end
+ *     made.module, made.script.pieces(), made.declarations // the files; `script` is null if it is far too long
+ *     made.report                                          // lists by names, and how the run ended
  *     checkBodies(made);                                   // null, or a line that says which body of K is not M's
  *     nextChoice(made, choice, { passed });                // null, or { choice, until, isRun, why }: what to do next
  *     await compared(r3, files, made);                     // { by, crossings, turns, difference }

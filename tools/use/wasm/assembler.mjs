@@ -94,15 +94,18 @@ export class TypeList {
  * The bytes of a module.
  * @param {ModuleParts} parts
  */
-export function moduleBytes({ types = [], imports = [], functions = [], tables = [], memories = [], globals = [], exports = [],
+export function moduleBytes({ types = [], imports = [], functions = [], tables = [], memories = [], globals = [],
+  exports = [],
   start = null, elements = [], bodies = [], data = [], countsData = false, custom = [] }) {
   /** @type {[number, Part[]][]} */
-  const before = [[SECTION.type, types.map(functionType)], [SECTION.import, imports], [SECTION.function, functions.map(u32)],
+  const before = [[SECTION.type, types.map(functionType)], [SECTION.import, imports],
+    [SECTION.function, functions.map(u32)],
     [SECTION.table, tables], [SECTION.memory, memories], [SECTION.global, globals], [SECTION.export, exports]];
   /** @type {[number, Part[]][]} */
   const after = [[SECTION.code, bodies.map(sized)], [SECTION.data, data]];
   /** @param {[number, Part[]][]} lists */
-  const sections = lists => lists.filter(([, items]) => items.length > 0).map(([id, items]) => section(id, vector(items)));
+  const sections = lists =>
+    lists.filter(([, items]) => items.length > 0).map(([id, items]) => section(id, vector(items)));
   const starts = start === null ? [] : section(SECTION.start, u32(start));
   const count = countsData ? section(SECTION.dataCount, u32(data.length)) : [];
   return flat([MAGIC, sections(before), starts, sections([[SECTION.element, elements]]), count, sections(after),

@@ -1,4 +1,7 @@
-/** The sections of a module and what is in them, as far as tools need it. Bodies are ranges of bytes, and read on their own. */
+/**
+ * The sections of a module and what is in them, as far as tools need it. Bodies are ranges of bytes, and read on their
+ * own.
+ */
 import { KIND, SECTION } from './assembler.mjs';
 import { readInstruction } from './instructions.mjs';
 import { Reader, UnknownFormat } from './reader.mjs';
@@ -13,8 +16,8 @@ import { Reader, UnknownFormat } from './reader.mjs';
  * @typedef {{ bytes: Uint8Array, all: Instruction[], only: Instruction | null }} Constant a constant expression; `only`
  *   is its instruction where it has one besides `end`
  * @typedef {{ type: number, mutable: boolean, init?: Constant }} Global `init` is missing for an imported one
- * @typedef {{ module: string, name: string, kind: number, index: number, type?: number, item?: Table | Limits | Global }}
- *   Import `index` is its number among those of its kind; `type` that of its type, for functions and tags
+ * @typedef {{ module: string, name: string, kind: number, index: number, type?: number, item?: Table | Limits | Global
+ *   }} Import `index` is its number among those of its kind; `type` that of its type, for functions and tags
  * @typedef {{ name: string, kind: number, index: number }} Export
  * @typedef {{ table: number, offset: Constant | null, functions: (number | null)[], isDeclared: boolean }} Element
  *   `offset` is null for a segment that is not active, a function for an empty entry or one that is not a `ref.func`
@@ -190,7 +193,8 @@ function addImported(m) {
   /** @param {number} kind */
   const items = kind => m.imports.filter(item => item.kind === kind);
   const types = items(KIND.function).map(item => item.type ?? 0);
-  const [tables, memories, globals] = [KIND.table, KIND.memory, KIND.global].map(kind => items(kind).map(({ item }) => item));
+  const [tables, memories, globals] = [KIND.table, KIND.memory, KIND.global].map(kind =>
+    items(kind).map(({ item }) => item));
   m.functionTypes.unshift(...types);
   m.tables.unshift(.../** @type {Table[]} */ (tables));
   m.memories.unshift(.../** @type {Limits[]} */ (memories));
@@ -211,7 +215,8 @@ export function readModule(bytes) {
   const reader = new Reader(bytes, 8);
   /** @type {Module} */
   const m = { bytes, sections: [], types: [], imports: [], functionTypes: [], functions: [], importedFunctions: 0,
-    importedGlobals: 0, importedTables: 0, tables: [], memories: [], globals: [], exports: [], start: null, elements: [],
+    importedGlobals: 0, importedTables: 0, tables: [], memories: [], globals: [], exports: [], start: null,
+    elements: [],
     bodies: [], data: [], tags: 0, names: new Map() };
   while (!reader.isAtEnd) {
     const id = reader.byte();
@@ -248,8 +253,8 @@ export function* instructionsOf(m, index) {
 }
 
 /**
- * The names of all functions: that of the section `name`, else that of the first export, else `MODULE.NAME` of an import,
- * else `func N`.
+ * The names of all functions: that of the section `name`, else that of the first export, else `MODULE.NAME` of an
+ * import, else `func N`.
  * @param {Module} m
  * @returns {string[]}
  */

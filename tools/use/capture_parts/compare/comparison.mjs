@@ -57,7 +57,8 @@ class Lines {
     const { value, done } = this.seen.next();
     if (!done) this.difference = `crossing ${this.equal}: r3 has none, seen was ${value}`;
     else if (isTrap !== endsByTrap(made)) {
-      this.difference = `r3's run ${isTrap ? 'traps' : 'does not trap'} at its end, and the one that was seen ${isTrap ? 'did not' : 'did'}`;
+      const [own, seen] = isTrap ? ['traps', 'did not'] : ['does not trap', 'did'];
+      this.difference = `r3's run ${own} at its end, and the one that was seen ${seen}`;
     }
   }
 }
@@ -82,11 +83,13 @@ async function byCommand(r3, by, words, made) {
   if (status === STATUS.turnsSpent) return null;
   if (status === STATUS.done) lines.end(lines.last !== 'ended', made);
   else lines.difference = `r3 ${by}: ${line} (status ${status})`;
-  return { by, crossings: lines.equal, turns: by === 'history' && lines.difference === null ? lines.turns + made.actions : null,
+  return { by, crossings: lines.equal, turns: by === 'history' && lines.difference === null
+    ? lines.turns + made.actions : null,
     difference: lines.difference };
 }
 
-const WORDS = new Map([[HOST_CALL, 'host-call'], [HOST_RETURN, 'host-return'], [IMPORT_CALL, 'import-call'], [IMPORT_RETURN, 'import-return']]);
+const WORDS = new Map([[HOST_CALL, 'host-call'], [HOST_RETURN, 'host-return'], [IMPORT_CALL, 'import-call'],
+  [IMPORT_RETURN, 'import-return']]);
 
 /**
  * In V8, with the border of the replay module observed.
@@ -98,15 +101,16 @@ function byEngine(replay, made) {
   const lines = new Lines(made.outline());
   const end = runObserved(fs.readFileSync(replay), made.counts, (kind, number, types, values) => {
     if (lines.difference !== null) return;
-    lines.crossing([WORDS.get(kind), number, ...types.map((type, place) => historyValue(type, values[place]))].join(' '));
+    lines.crossing([WORDS.get(kind), number,
+      ...types.map((type, place) => historyValue(type, values[place]))].join(' '));
   });
   lines.end(end === 'trapped', made);
   return { by: 'V8', crossings: lines.equal, turns: null, difference: lines.difference };
 }
 
 /**
- * Compares what r3 does with what was seen: up to 2,000,000 turns by `history`, up to 20,000,000 by `replay`, beyond that by
- * running the replay module in V8.
+ * Compares what r3 does with what was seen: up to 2,000,000 turns by `history`, up to 20,000,000 by `replay`, beyond
+ * that by running the replay module in V8.
  * @param {string} r3
  * @param {{ module: string, declarations: string | null, script: string, replay: string }} files
  * @param {Capture} made

@@ -1,6 +1,7 @@
 /**
- * Runs a replay module in V8 with its border observed. The function in an import's place becomes one that reports the call
- * and its result; so does each function that the host's own code calls. Nothing is renumbered: they call by one more table.
+ * Runs a replay module in V8 with its border observed. The function in an import's place becomes one that reports the
+ * call and its result; so does each function that the host's own code calls. Nothing is renumbered: they call by one
+ * more table.
  */
 import { KIND, SECTION, exportItem, functionType } from '../../wasm/assembler.mjs';
 import { flat, s32, section, sized, u32, vector } from '../../wasm/encoding.mjs';
@@ -139,7 +140,8 @@ class Observed {
   bytes() {
     const code = this.bodies();
     /** @type {Map<number, Part[]>} */
-    const items = new Map([[SECTION.type, this.types.map(functionType)], [SECTION.function, this.added.map(({ type }) => u32(type))],
+    const items = new Map([[SECTION.type, this.types.map(functionType)],
+      [SECTION.function, this.added.map(({ type }) => u32(type))],
       [SECTION.table, [[FUNCREF, 0, u32(this.observers.length)]]],
       [SECTION.export, [exportItem(OBSERVERS, KIND.table, this.m.tables.length)]]]);
     const known = new Set(this.m.sections.map(item => item.id));
@@ -173,8 +175,8 @@ function lengthened(bytes, id, begin, end, items) {
 }
 
 /**
- * Runs a replay module of a module with so many imports and functions, and reports each crossing as a history numbers it.
- * Gives how the run ended.
+ * Runs a replay module of a module with so many imports and functions, and reports each crossing as a history numbers
+ * it. Gives how the run ended.
  * @param {Uint8Array} bytes
  * @param {{ imports: number, functions: number }} counts declared functions of the host count as imports
  * @param {Report} report floats come as integers of their bits

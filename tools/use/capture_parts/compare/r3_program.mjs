@@ -19,7 +19,8 @@ const MOST_OUTPUT = 1 << 16;
 export function outputTo(r3, words, file) {
   const output = fs.openSync(file, 'w');
   try {
-    const { status, stderr, error } = spawnSync(r3, words, { stdio: ['ignore', output, 'pipe'], maxBuffer: MOST_OUTPUT });
+    const { status, stderr, error } =
+      spawnSync(r3, words, { stdio: ['ignore', output, 'pipe'], maxBuffer: MOST_OUTPUT });
     if (error !== undefined) throw error;
     return { status: status ?? -1, line: String(stderr).trim() };
   } finally {

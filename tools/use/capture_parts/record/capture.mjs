@@ -31,7 +31,8 @@ function ending({ end, plan, until }, events) {
   if (end === null) return { kind: 'cut', text: 'the program was ended from outside' };
   const { over } = end;
   if (over === null) return { kind: isCut ? 'cut' : 'returned', text: isCut ? `after ${until} crossings` : end.why };
-  const where = over.place !== null ? calleeName(plan, over.place) : over.slot !== null ? plan.names[plan.kept[over.slot]] : '';
+  const ofKept = over.slot === null ? '' : plan.names[plan.kept[over.slot]];
+  const where = over.place === null ? ofKept : calleeName(plan, over.place);
   const text = where === '' ? over.text : `${where}: ${over.text}`;
   if (over.by === 'trap') return { kind: 'trap', text };
   return { kind: over.by === 'exception' ? 'host trap' : 'cut', text };
@@ -63,7 +64,8 @@ const sorted = list => list.sort(([, one], [, other]) => other - one);
 function report(record, contents, events) {
   const { plan, entered, floatCounts, end } = record;
   const name = (/** @type {number} */ slot) => plan.names[plan.kept[slot]];
-  const sum = (/** @type {Map<number, number>} */ counts) => [...counts.values()].reduce((total, count) => total + count, 0);
+  const sum = (/** @type {Map<number, number>} */ counts) =>
+    [...counts.values()].reduce((total, count) => total + count, 0);
   return {
     functions: plan.m.functions.length - plan.m.importedFunctions,
     kept: plan.kept.map(index => plan.names[index]),
@@ -96,8 +98,8 @@ function viewOf(events, contents, isWhole) {
 }
 
 /**
- * The capture of a record. `whole` says that r3 takes the module as it is: then the module itself is taken, if all of it
- * was kept and a script for it can say what the host did.
+ * The capture of a record. `whole` says that r3 takes the module as it is: then the module itself is taken, if all of
+ * it was kept and a script for it can say what the host did.
  * @param {Record} record
  * @param {{ whole?: boolean }} [options]
  */
@@ -110,7 +112,8 @@ export function captureOf(record, options = {}) {
   const isTooLong = told.crossings > MOST_CROSSINGS;
   const script = isTooLong ? null : 'script' in found && found.script ? found.script : new Script(events, view);
   return {
-    record, contents, report: told, isWhole: view.isWhole, notWhole: 'notWhole' in found ? found.notWhole : null, module: view.module,
+    record, contents, report: told, module: view.module, isWhole: view.isWhole,
+    notWhole: 'notWhole' in found ? found.notWhole : null,
     declarations: script === null ? null : view.declarations(),
     /** The script in pieces, or null where it would be far too long for r3. */
     script: script === null ? null : { pieces: () => scriptPieces(script) },

@@ -1,5 +1,6 @@
 /** What of K a run names: which functions it calls and enters, which entries of the table, which globals. */
-import { ACTION, ENTRY, FIRST_ENTRY, GLOBAL, GROW, HOST_CALL, IMPORT_CALL, OTHER_FUNCTION, WRITE } from '../recorder/log_layout.mjs';
+import { ACTION, ENTRY, FIRST_ENTRY, GLOBAL, GROW, HOST_CALL, IMPORT_CALL, OTHER_FUNCTION,
+  WRITE } from '../recorder/log_layout.mjs';
 
 /** @typedef {import('./events.mjs').Events} Events */
 
@@ -28,7 +29,8 @@ const add = (counts, key) => counts.set(key, (counts.get(key) ?? 0) + 1);
  * @returns {Contents}
  */
 export function contentsOf(events) {
-  const found = { hostCalls: new Map(), importCalls: new Map(), firstEntries: new Map(), entryFunctions: new Set(), setFunctions: new Set(), hasOther: false,
+  const found = { hostCalls: new Map(), importCalls: new Map(), firstEntries: new Map(), entryFunctions: new Set(),
+    setFunctions: new Set(), hasOther: false,
     setGlobals: new Set(), writtenBytes: 0, grows: false };
   for (const { kind, number, values, bytes } of events) {
     if (kind === HOST_CALL) add(found.hostCalls, number);

@@ -1,13 +1,15 @@
 /** The events of a record: crossings with their values, and what the host does between them. */
 import { calleeTypes } from '../split/plan.mjs';
-import { ACTION, FOLLOWING, FOREIGN, HOST_CALL, HOST_RETURN, IMPORT_CALL, IMPORT_RETURN, WRITE } from '../recorder/log_layout.mjs';
+import { ACTION, FOLLOWING, FOREIGN, HOST_CALL, HOST_RETURN, IMPORT_CALL, IMPORT_RETURN,
+  WRITE } from '../recorder/log_layout.mjs';
 import { isWide } from '../../wasm/value_types.mjs';
 
 /** @typedef {import('./record.mjs').Record} Record */
 /** @typedef {import('../../wasm/value_types.mjs').FunctionType} FunctionType */
 
 /**
- * An event. Crossings have the types and the values, as bits, signed; an action has its words, a write its address and bytes.
+ * An event. Crossings have the types and the values, as bits, signed; an action has its words, a write its address and
+ * bytes.
  * @typedef {object} Event
  * @property {number} kind
  * @property {number} number

@@ -79,7 +79,8 @@ export class KeptView {
    * @param {(number | bigint)[]} values
    */
   response(place, types, values) {
-    if (types.length < 2) return { actions: [], result: types.length === 0 ? '' : `"return":${scriptValue(types[0], values[0])}` };
+    if (types.length === 0) return { actions: [], result: '' };
+    if (types.length === 1) return { actions: [], result: `"return":${scriptValue(types[0], values[0])}` };
     const actions = types.map((type, index) => {
       const global = this.trimmed.results.find(item => item.place === index && item.type === type);
       return `{"set_global":${JSON.stringify(global?.name)},"value":${scriptValue(type, values[index])}}`;

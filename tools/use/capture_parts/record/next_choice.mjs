@@ -32,7 +32,8 @@ const numbered = index => `func ${index}`;
  * @param {Choice} choice
  */
 function unfit({ record: { plan, end, floatCounts } }, choice) {
-  const stale = new Map((end?.stale ?? []).map(index => [index, 'an exception or a trap ends it, and the program goes on']));
+  const stale = new Map((end?.stale ?? []).map(index =>
+    [index, 'an exception or a trap ends it, and the program goes on']));
   const isFew = (choice.floats ?? 'few') === 'few';
   const hot = [...floatCounts].filter(([, count]) => isFew && count > FEW);
   return new Map([...stale, ...hot.map(([slot, count]) =>
@@ -69,7 +70,8 @@ function atBusyBorders({ record: { plan }, contents, report }) {
  * @returns {Next}
  */
 function without({ record: { plan, until } }, choice, functions) {
-  return { choice: { ...choice, drop: [...choice.drop ?? [], ...[...functions.keys()].map(numbered)] }, until, isRun: true,
+  return { choice: { ...choice, drop: [...choice.drop ?? [], ...[...functions.keys()].map(numbered)] }, until,
+    isRun: true,
     why: [...functions].map(([index, why]) => `${plan.names[index]} is left out: ${why}`) };
 }
 
@@ -81,16 +83,17 @@ function without({ record: { plan, until } }, choice, functions) {
 function refusedFunction({ record: { plan }, trimmed }, line) {
   const number = Number(/\bfunction (\d+)/.exec(line)?.[1] ?? NaN);
   const found = [...trimmed?.places ?? []].find(([index, place]) => place === number && plan.slots.has(index));
-  return new Map(found === undefined ? [] : [/** @type {[number, string]} */ ([found[0], `r3 does not take it: ${line}`])]);
+  return new Map(found === undefined
+    ? [] : [/** @type {[number, string]} */ ([found[0], `r3 does not take it: ${line}`])]);
 }
 
 /**
- * What to do next, or null where the capture is as good as it gets. `passed` is the limit of r3 that the capture passes, of
- * which `--fit` wants a cure: `script`, `weight` or `turns`.
+ * What to do next, or null where the capture is as good as it gets. `passed` is the limit of r3 that the capture
+ * passes, of which `--fit` wants a cure: `script`, `weight` or `turns`.
  * @param {Capture} made
  * @param {Choice} choice
- * @param {{ passed?: 'script' | 'weight' | 'turns' | null, refusal?: string | null }} [limits] `refusal` is r3's line where it
- *   does not take the module
+ * @param {{ passed?: 'script' | 'weight' | 'turns' | null, refusal?: string | null }} [limits] `refusal` is r3's line
+ *   where it does not take the module
  * @returns {Next | null}
  */
 export function nextChoice(made, choice, limits = {}) {

@@ -6,7 +6,8 @@ import { historyValue } from './values.mjs';
 /** @typedef {import('./events.mjs').Event} Event */
 /** @typedef {import('./script.mjs').View} View */
 
-const WORDS = new Map([[HOST_CALL, 'host-call'], [HOST_RETURN, 'host-return'], [IMPORT_CALL, 'import-call'], [IMPORT_RETURN, 'import-return']]);
+const WORDS = new Map([[HOST_CALL, 'host-call'], [HOST_RETURN, 'host-return'], [IMPORT_CALL, 'import-call'],
+  [IMPORT_RETURN, 'import-return']]);
 
 /**
  * Whether a line of a history is a crossing.

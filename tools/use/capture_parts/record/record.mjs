@@ -12,8 +12,8 @@ import { CHUNK, chunksOf } from '../recorder/chunks.mjs';
  */
 
 /**
- * A record. `words` are those of the log, `entered` the places of the functions of K that ran, `floatCounts` how often the
- * float instructions of such a function ran.
+ * A record. `words` are those of the log, `entered` the places of the functions of K that ran, `floatCounts` how often
+ * the float instructions of such a function ran.
  * @typedef {object} Record
  * @property {Plan} plan
  * @property {State} state
@@ -67,6 +67,7 @@ export function readRecord(bytes) {
   if (found.module === null || found.head === null) throw new NoRecord('the file is no record of a run');
   const { choice, state, until } = found.head;
   const words = new Int32Array(joined(parts.slice(0, complete)).buffer);
-  return { plan: planOf(found.module, choice), state, until, words, entered: found.entered, floatCounts: found.floatCounts,
+  return { plan: planOf(found.module, choice), state, until, words, entered: found.entered,
+    floatCounts: found.floatCounts,
     used: found.used, end: found.end };
 }

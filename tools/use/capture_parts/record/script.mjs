@@ -1,5 +1,6 @@
 /** The script of a record: what the host does, in the words of r3's scripts. */
-import { ACTION, ENTRY, FIRST_ENTRY, FOREIGN, GLOBAL, GROW, GROW_TABLE, HOST_CALL, HOST_RETURN, IMPORT_CALL, IMPORT_RETURN, WRITE }
+import { ACTION, ENTRY, FIRST_ENTRY, FOREIGN, GLOBAL, GROW, GROW_TABLE, HOST_CALL, HOST_RETURN, IMPORT_CALL,
+  IMPORT_RETURN, WRITE }
   from '../recorder/log_layout.mjs';
 import { scriptValue } from './values.mjs';
 
@@ -20,7 +21,8 @@ export class NotWhole extends Error {}
  * @property {() => boolean} startsItself
  * @property {(slot: number) => string} call
  * @property {(place: number) => string[]} importNames
- * @property {(place: number, types: number[], values: (number | bigint)[]) => { actions: string[], result: string }} response
+ * @property {(place: number, types: number[], values: (number | bigint)[]) => { actions: string[], result: string }}
+ *   response
  * @property {(index: number, value: string) => string} setGlobal
  * @property {(place: number, index: number, isFirst: boolean) => string | null} setEntry
  * @property {(slot: number) => number} hostNumber
@@ -43,7 +45,8 @@ class Answer {
 
   text() {
     const actions = this.actions.flat();
-    return `{${[actions.length === 0 ? '' : `"do":[${actions.join(',')}]`, this.end].filter(part => part !== '').join(',')}}`;
+    const text = actions.length === 0 ? '' : `"do":[${actions.join(',')}]`;
+    return `{${[text, this.end].filter(part => part !== '').join(',')}}`;
   }
 }
 
@@ -104,7 +107,8 @@ export class Script {
       return;
     }
     this.actions.push(this.late);
-    const args = types.length === 0 ? '' : `,"args":[${types.map((type, place) => scriptValue(type, values[place])).join(',')}]`;
+    const args = types.length === 0
+      ? '' : `,"args":[${types.map((type, place) => scriptValue(type, values[place])).join(',')}]`;
     this.actions.push(`{${this.view.call(number)}${args}}`);
   }
 
@@ -141,7 +145,8 @@ export class Script {
 
   /** How many turns the actions take. */
   turns() {
-    const count = (/** @type {Actions} */ actions) => actions.reduce((sum, part) => sum + (typeof part === 'string' ? 1 : part.length), 0);
+    const count = (/** @type {Actions} */ actions) =>
+      actions.reduce((sum, part) => sum + (typeof part === 'string' ? 1 : part.length), 0);
     let sum = count(this.main);
     for (const list of this.answers.values()) for (const { actions } of list) sum += count(actions);
     return sum;

@@ -19,4 +19,5 @@ export const scriptValue = (type, bits) => `{"${typeName(type)}":${isFloat(type)
  * @param {number} type
  * @param {number | bigint} bits
  */
-export const historyValue = (type, bits) => `${typeName(type)}:${unsigned(type, bits).toString(16).padStart(isWide(type) ? 16 : 8, '0')}`;
+export const historyValue = (type, bits) =>
+  `${typeName(type)}:${unsigned(type, bits).toString(16).padStart(isWide(type) ? 16 : 8, '0')}`;

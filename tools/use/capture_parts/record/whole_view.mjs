@@ -98,8 +98,10 @@ export class WholeView {
       if ((names.get(name) ?? value) !== value) throw new NotWhole(`several imports ${module}.${name}`);
       modules.set(module, names.set(name, value));
     }
-    const inner = (/** @type {Map<string, string>} */ names) => [...names].map(([name, value]) => `${JSON.stringify(name)}:${value}`);
-    return `{${[...modules].map(([module, names]) => `${JSON.stringify(module)}:{${inner(names).join(',')}}`).join(',')}}`;
+    const inner = (/** @type {Map<string, string>} */ names) =>
+      [...names].map(([name, value]) => `${JSON.stringify(name)}:${value}`);
+    const texts = [...modules].map(([module, names]) => `${JSON.stringify(module)}:{${inner(names).join(',')}}`);
+    return `{${texts.join(',')}}`;
   }
 
   declarations() {
@@ -120,7 +122,9 @@ export class WholeView {
     const name = this.functionNames.get(index);
     if (name !== undefined) return `"call":${JSON.stringify(name)}`;
     const place = [...this.table].find(([, other]) => other === index)?.[0];
-    if (place === undefined || !this.reaches(KIND.table)) throw new NotWhole(`the host calls ${this.plan.names[index]}, which no export has`);
+    if (place === undefined || !this.reaches(KIND.table)) {
+      throw new NotWhole(`the host calls ${this.plan.names[index]}, which no export has`);
+    }
     return `"call_table":${place}`;
   }
 
@@ -144,7 +148,8 @@ export class WholeView {
    * @param {(number | bigint)[]} values
    */
   response(place, types, values) {
-    return { actions: /** @type {string[]} */ ([]), result: types.length === 0 ? '' : `"return":${scriptValue(types[0], values[0])}` };
+    return { actions: /** @type {string[]} */ ([]),
+      result: types.length === 0 ? '' : `"return":${scriptValue(types[0], values[0])}` };
   }
 
   /**
@@ -155,7 +160,8 @@ export class WholeView {
     const name = this.globalNames.get(index);
     const item = this.m.imports.filter(other => other.kind === KIND.global)[index];
     if (name === undefined && item === undefined) throw new NotWhole(`global ${index}, which no export has`);
-    return `{"set_global":${name === undefined ? `{"import":${JSON.stringify([item.module, item.name])}}` : JSON.stringify(name)},"value":${value}}`;
+    const target = name === undefined ? `{"import":${JSON.stringify([item.module, item.name])}}` : JSON.stringify(name);
+    return `{"set_global":${target},"value":${value}}`;
   }
 
   /**

@@ -1,6 +1,7 @@
 /**
  * The table. K has one of its own, with K's functions where the program's has trampolines. An entry is looked at when K
- * calls by it: if the host has changed it, the change is added to the host's last turn, since K has not called by it before.
+ * calls by it: if the host has changed it, the change is added to the host's last turn, since K has not called by it
+ * before.
  */
 import { OTHER_TYPE, bridgeBytes, isBridged, takingBytes } from '../split/bridges.mjs';
 import { KEPT_NAMES } from '../split/watched.mjs';
@@ -41,13 +42,15 @@ export class Entries {
      * The functions as K has called by them, or as instantiation has left them.
      * @type {(Function | null)[]}
      */
-    this.noted = Array.from({ length: size }, (_, place) => native.entry(/** @type {WebAssembly.Table} */ (table), place));
+    this.noted = Array.from({ length: size }, (_, place) => native.entry(/** @type {WebAssembly.Table} */ (table),
+      place));
     /**
      * Entries that K has called by.
      * @type {Set<number>}
      */
     this.called = new Set();
-    this.watch = native.exports(entriesBytes(pagesFor(size)), { js: { entry: (/** @type {number} */ place) => this.look(place) } });
+    this.watch = native.exports(entriesBytes(pagesFor(size)),
+      { js: { entry: (/** @type {number} */ place) => this.look(place) } });
     this.epochs = new Int32Array(this.watch.memory.buffer);
     this.epochs[0] = 1;
     this.size = size;
@@ -92,7 +95,8 @@ export class Entries {
     if (place >= this.size) return;
     const func = native.entry(table, place);
     const isFirst = !this.called.has(place);
-    if (func !== this.noted[place] || isFirst) this.set(place, func, isFirst && func === this.noted[place] ? FIRST_ENTRY : ENTRY);
+    const isOther = func !== this.noted[place];
+    if (isOther || isFirst) this.set(place, func, isOther ? ENTRY : FIRST_ENTRY);
     this.epochs[place + 1] = this.epochs[0];
   }
 
@@ -150,8 +154,8 @@ export class Entries {
   }
 
   /**
-   * A function in the table that is none of M's. Its type is found by trying which of the types that K calls by the table
-   * it has. If it has none of them, a call by its entry traps.
+   * A function in the table that is none of M's. Its type is found by trying which of the types that K calls by the
+   * table it has. If it has none of them, a call by its entry traps.
    * @param {Function} func
    */
   foreignFunction(func) {

@@ -78,7 +78,8 @@ export function initialState(p, rest, given) {
     maximum: given.memoryMaximum === undefined ? m.memories[0]?.max ?? null : given.memoryMaximum,
     entries: table === null ? 0 : native.size(table),
     mostEntries: given.tableMaximum === undefined ? m.tables[p.table]?.max ?? null : given.tableMaximum,
-    globals: notedGlobals(p).map(index => [index, bitsOf(own(REST_NAMES.global(index)), m.globals[index].type, m.globals[index].mutable)]),
+    globals: notedGlobals(p).map(index =>
+      [index, bitsOf(own(REST_NAMES.global(index)), m.globals[index].type, m.globals[index].mutable)]),
     offsets: m.data.map(({ offset }) => (offset === null ? null : offsetOf(offset, valueOfGlobal))),
   };
 }

@@ -25,7 +25,10 @@ export const FIRST_ENTRY = 4; // the same, of an entry that is as instantiation 
 export const FOREIGN = 5; // a function of the host's own: how many parameters and results, and their types
 export const FOLLOWING = [1, 3, 1, 2, 2];
 
-/** In place of a function's number in M: an empty entry, or a function of a type that K does not call. Below are foreign ones. */
+/**
+ * In place of a function's number in M: an empty entry, or a function of a type that K does not call. Below are foreign
+ * ones.
+ */
 export const NO_FUNCTION = -1;
 export const OTHER_FUNCTION = -2;
 export const FIRST_FOREIGN = -3;

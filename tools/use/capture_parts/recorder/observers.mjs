@@ -1,6 +1,6 @@
 /**
- * The observers of the border: what R and JavaScript call for a kept function, and what K calls for a function that is not
- * kept. An error of the program passes through as it is; one of the recorder never reaches the program.
+ * The observers of the border: what R and JavaScript call for a kept function, and what K calls for a function that is
+ * not kept. An error of the program passes through as it is; one of the recorder never reaches the program.
  */
 import { isWide } from '../../wasm/value_types.mjs';
 import { HOST_CALL, HOST_RETURN, IMPORT_CALL, IMPORT_RETURN } from './log_layout.mjs';
@@ -144,7 +144,8 @@ function returnWriter(log, kind, number, results) {
   const first = number * 8 + kind;
   if (results.length === 0) return () => log.return0(first);
   if (results.length === 1 && !wide[0]) return result => log.return1(first, result);
-  return results.length === 1 ? result => log.crossing(kind, number, wide, [result]) : result => log.crossing(kind, number, wide, result);
+  if (results.length === 1) return result => log.crossing(kind, number, wide, [result]);
+  return result => log.crossing(kind, number, wide, result);
 }
 
 /**

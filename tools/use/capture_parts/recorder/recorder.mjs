@@ -44,8 +44,8 @@ const isOverflow = (/** @type {any} */ error) => error instanceof RangeError && 
 export class Recorder {
   /**
    * @param {Plan} plan
-   * @param {{ sink?: (chunk: Uint8Array) => void, until?: number | null, isHashing?: boolean, accesses?: number }} [options] without a sink the
-   *   chunks are kept in `chunks`
+   * @param {{ sink?: (chunk: Uint8Array) => void, until?: number | null, isHashing?: boolean, accesses?: number }}
+   *   [options] without a sink the chunks are kept in `chunks`
    */
   constructor(plan, options = {}) {
     this.plan = plan;
@@ -142,14 +142,16 @@ export class Recorder {
   /** @param {import('./initial_state.mjs').State} state */
   connectShadow(state) {
     const { plan } = this;
-    const globals = Object.fromEntries(plan.unsteadyGlobals.map(index => [`global ${index}`, this.ofRest(REST_NAMES.global(index))]));
+    const globals = Object.fromEntries(plan.unsteadyGlobals.map(index =>
+      [`global ${index}`, this.ofRest(REST_NAMES.global(index))]));
     const pages = plan.usesMemory ? state.pages : 0;
     if (pages > MOST_PAGES) throw new Error(`the memory has ${pages} pages, and r3 takes ${MOST_PAGES}`);
     /** @param {(shadow: Shadow, address: number, count: number) => void} step */
     const ofShadow = step => (/** @type {number} */ address, /** @type {number} */ count) =>
       this.guarded(() => step(/** @type {Shadow} */ (this.shadow), address >>> 0, count), undefined);
     const js = { miss: ofShadow((shadow, address, count) => shadow.miss(address, count)),
-      over: ofShadow((shadow, address, count) => shadow.reads(address, count)), own: ofShadow((shadow, address) => shadow.own(address)),
+      over: ofShadow((shadow, address, count) => shadow.reads(address, count)),
+      own: ofShadow((shadow, address) => shadow.own(address)),
       ownForStores: ofShadow((shadow, address) => shadow.ownForStores(address)) };
     this.watch = native.exports(shadowBytes(plan, pages, this.options.accesses ?? ACCESSES), { js, rest: globals });
     this.shadow = new Shadow(this.memory, this.watch.memory, (address, bytes) => {
@@ -171,7 +173,8 @@ export class Recorder {
     const observers = types.map((type, place) => importObserver(this, place, type, calls, place));
     const bridge = native.exports(bridgeBytes(types, false), { js: { ...observers }, target: { ...targets } });
     types.forEach((type, place) => { if (isBridged(type)) calls[place] = bridge[`in.${place}`]; });
-    const floats = native.exports(floatBytes(plan), { js: { flush: () => this.guarded(() => this.log.flush(), undefined) },
+    const floats = native.exports(floatBytes(plan),
+      { js: { flush: () => this.guarded(() => this.log.flush(), undefined) },
       log: { memory: this.log.memory } });
     const callee = Object.fromEntries([...types.map((_, place) => [place, bridge[`out.${place}`]]),
       ...plan.floats.map((_, number) => [types.length + number, floats[`float ${types.length + number}`]])]);
@@ -249,7 +252,8 @@ export class Recorder {
     this.guarded(() => {
       this.shadow?.grownPages();
       const pages = (this.shadow?.real.length ?? 0) / 65536;
-      if (pages > MOST_PAGES) this.finish({ by: 'limit', text: `the memory has ${pages} pages, and r3 takes ${MOST_PAGES}`, place: null, slot: null });
+      const text = `the memory has ${pages} pages, and r3 takes ${MOST_PAGES}`;
+      if (pages > MOST_PAGES) this.finish({ by: 'limit', text, place: null, slot: null });
     }, undefined);
     return before;
   }
@@ -367,7 +371,9 @@ export class Recorder {
 
   /** By what an instance is chosen among others. */
   summary() {
-    const entered = this.kept === undefined ? 0 : this.plan.kept.filter((_, slot) => this.kept[KEPT_NAMES.entered(slot)].value !== 0).length;
+    const ran = (/** @type {number} */ slot) => this.kept !== undefined
+      && this.kept[KEPT_NAMES.entered(slot)].value !== 0;
+    const entered = this.plan.kept.filter((_, slot) => ran(slot)).length;
     return { crossings: this.log.crossings, entered, over: this.over };
   }
 

@@ -2,8 +2,9 @@
  * The shadow of the memory: what K knows of it. A load of K that finds other bytes has found what the host wrote. The
  * bytes are added as a write to the host's last turn, since K has not looked at them before.
  *
- * A block that K uses often in a turn is owned for the turn: it is compared as a whole, and K's loads there are not watched
- * any more. Where K's stores are not watched either, the shadow of the block is brought up to date when control leaves K.
+ * A block that K uses often in a turn is owned for the turn: it is compared as a whole, and K's loads there are not
+ * watched any more. Where K's stores are not watched either, the shadow of the block is brought up to date when control
+ * leaves K.
  */
 import { BLOCK, BLOCK_BITS } from '../split/operations.mjs';
 import { MOST_PAGES } from '../split/plan.mjs';
@@ -108,7 +109,8 @@ export class Shadow {
   }
 
   /**
-   * Compares bytes of one block, and says whether some differ. Bytes between that do not differ are not added: K may have read their old values.
+   * Compares bytes of one block, and says whether some differ. Bytes between that do not differ are not added: K may
+   * have read their old values.
    * @param {number} from
    * @param {number} to
    */

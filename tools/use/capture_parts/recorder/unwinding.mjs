@@ -1,6 +1,6 @@
 /**
- * Which functions of K an exception or a trap has ended. r3 has no such end of a function that the run goes on after, so
- * these functions are to stay outside of K in a further run.
+ * Which functions of K an exception or a trap has ended. r3 has no such end of a function that the run goes on after,
+ * so these functions are to stay outside of K in a further run.
  */
 const FRAME = /(wasm:\/\/[^\s()]+):wasm-function\[(\d+)\]/;
 
@@ -29,7 +29,8 @@ function stackLines() {
   }
 }
 /** @param {unknown} stack */
-const linesOf = stack => (typeof stack === 'string' ? stack.split('\n').filter(line => line.trimStart().startsWith('at ')) : []);
+const linesOf = stack =>
+  (typeof stack === 'string' ? stack.split('\n').filter(line => line.trimStart().startsWith('at ')) : []);
 
 export class Unwinding {
   /**
@@ -62,7 +63,8 @@ export class Unwinding {
    * @param {string[]} lines
    */
   functions(lines) {
-    const frames = lines.map(line => FRAME.exec(line)).map(found => (found?.[1] === this.address ? Number(found?.[2]) : null));
+    const frames = lines.map(line => FRAME.exec(line)).map(found =>
+      (found?.[1] === this.address ? Number(found?.[2]) : null));
     const begin = frames.findIndex(number => number !== null);
     if (begin === -1) return [];
     const behind = frames.findIndex((number, place) => place > begin && number === null);

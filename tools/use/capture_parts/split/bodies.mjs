@@ -1,6 +1,6 @@
 /**
- * The bodies of kept functions in K: M's instructions with the numbers of K. In K as it runs, loads, stores and calls by
- * the table are watched.
+ * The bodies of kept functions in K: M's instructions with the numbers of K. In K as it runs, loads, stores and calls
+ * by the table are watched.
  */
 import { constant, flat, s32, u32, vector } from '../../wasm/encoding.mjs';
 import { PREFIX_BITS } from '../../wasm/instruction_names.mjs';
@@ -21,7 +21,8 @@ import { BLOCK, FLOAT_TYPES, HASH_FACTOR, LOADED, LOADED_BYTES, OP, STORED, STOR
  * @property {(op: number) => number} float of the import for a float instruction
  * @property {(index: number) => number} global
  * @property {(type: FunctionType) => number} type
- * @property {(index: number) => number[]} results the globals that the results of a callee come through, if it has several
+ * @property {(index: number) => number[]} results the globals that the results of a callee come through, if it has
+ *   several
  */
 
 /**
@@ -71,7 +72,7 @@ class Spelling {
     const { op, index = 0 } = item;
     if (FLOAT_TYPES.has(op)) return this.float(op);
     if (op >= OP.block && op <= OP.if) return this.block(item);
-    if (op === OP.call) return [call(this.places.function(index)), this.places.results(index).map(place => [OP.globalGet, u32(place)])];
+    if (op === OP.call) return this.call(index);
     if (op === OP.callIndirect) return this.callIndirect(index);
     if (op === OP.selectTyped) return OP.select;
     if (op === OP.globalGet || op === OP.globalSet) return [op, u32(this.places.global(index))];
@@ -80,6 +81,15 @@ class Spelling {
     if (op === OP.memoryGrow) return this.grow();
     if (op === OP.memoryCopy || op === OP.memoryFill) return this.range(op);
     return null;
+  }
+
+  /**
+   * @param {number} index
+   * @returns {Part}
+   */
+  call(index) {
+    const results = this.places.results(index).map(place => [OP.globalGet, u32(place)]);
+    return [call(this.places.function(index)), results];
   }
 
   /**
@@ -173,8 +183,8 @@ class WatchedSpelling extends Spelling {
   }
 
   /**
-   * Code that calls a watch where an access of so many bytes is not within the block that K owned when the site's global was
-   * set. The global has the block's address, and the turn above it. `args` are those before the turn.
+   * Code that calls a watch where an access of so many bytes is not within the block that K owned when the site's
+   * global was set. The global has the block's address, and the turn above it. `args` are those before the turn.
    * @param {number} offset
    * @param {number} bytes
    * @param {(address: Part) => Part} args
@@ -208,7 +218,8 @@ class WatchedSpelling extends Spelling {
   load(item) {
     const place = item.op - OP.firstLoad;
     const value = this.values.get(LOADED[place]) ?? 0;
-    const watched = this.watched(item.offset ?? 0, LOADED_BYTES[place], address => [get(value), address], this.watch.load[place]);
+    const watched = this.watched(item.offset ?? 0, LOADED_BYTES[place], address => [get(value), address],
+      this.watch.load[place]);
     return [tee(this.address), super.load(item), tee(value), watched, this.hashed(LOADED[place], value)];
   }
 
@@ -219,7 +230,8 @@ class WatchedSpelling extends Spelling {
   store(item) {
     const place = item.op - OP.firstStore;
     const value = this.values.get(STORED[place]) ?? 0;
-    const watched = this.watched(item.offset ?? 0, STORED_BYTES[place], address => [address, get(value)], this.watch.store[place]);
+    const watched = this.watched(item.offset ?? 0, STORED_BYTES[place], address => [address, get(value)],
+      this.watch.store[place]);
     return [set(value), tee(this.address), get(value), super.store(item), watched];
   }
 

@@ -1,6 +1,6 @@
 /**
- * Bridges between K and R and the observers in JavaScript. JavaScript sees floats as the integers of their bits, so that no
- * NaN changes on its way.
+ * Bridges between K and R and the observers in JavaScript. JavaScript sees floats as the integers of their bits, so
+ * that no NaN changes on its way.
  */
 import { KIND, TypeList, exportItem, importItem, moduleBytes } from '../../wasm/assembler.mjs';
 import { flat, u32, vector } from '../../wasm/encoding.mjs';
@@ -24,7 +24,8 @@ export const isBridged = ({ params, results }) => [...params, ...results].some(i
  * @param {FunctionType} type
  * @returns {FunctionType}
  */
-export const integerType = ({ params, results }) => ({ params: params.map(integerOf), results: results.map(integerOf) });
+export const integerType = ({ params, results }) =>
+  ({ params: params.map(integerOf), results: results.map(integerOf) });
 
 /**
  * A body that converts its arguments, calls a function, and converts the results.
@@ -46,10 +47,10 @@ function converting({ params, results }, target, before, after, given) {
 }
 
 /**
- * A module for functions of these types. It imports as `js.N` the observer, which has integers, and as `target.N` what the
- * observer calls, where that has floats. It exports `out.N`, what the caller gets, and `in.N`, what the observer calls
- * where there are floats. With `isTable` the entries of the imported table `rest.trampolines` are set to what the callers
- * get, in place of exports.
+ * A module for functions of these types. It imports as `js.N` the observer, which has integers, and as `target.N` what
+ * the observer calls, where that has floats. It exports `out.N`, what the caller gets, and `in.N`, what the observer
+ * calls where there are floats. With `isTable` the entries of the imported table `rest.trampolines` are set to what the
+ * callers get, in place of exports.
  * @param {FunctionType[]} list
  * @param {boolean} isTable
  */
@@ -62,7 +63,8 @@ export function bridgeBytes(list, isTable) {
    * @param {number} place
    * @param {FunctionType} type
    */
-  const imported = (module, place, type) => imports.push(importItem(module, String(place), KIND.function, u32(types.index(type)))) - 1;
+  const imported = (module, place, type) =>
+    imports.push(importItem(module, String(place), KIND.function, u32(types.index(type)))) - 1;
   const observers = list.map((type, place) => imported('js', place, integerType(type)));
   const targets = list.map((type, place) => (isBridged(type) ? imported('target', place, type) : -1));
   const count = imports.length;

@@ -24,7 +24,8 @@ export const importedType = type => (type.results.length > 1 ? { params: type.pa
  * The types of K's imports.
  * @param {Trimmed} k
  */
-const importTypes = k => [...k.callees.map(index => importedType(k.plan.m.functions[index])), ...k.floats.map(floatType),
+const importTypes = k => [...k.callees.map(index => importedType(k.plan.m.functions[index])),
+  ...k.floats.map(floatType),
   ...k.hasOther ? [OTHER_TYPE] : []];
 
 /** @param {Trimmed} k */
@@ -53,7 +54,8 @@ function runs(entries) {
  */
 function elements(k, contents) {
   const place = (/** @type {number} */ index) => u32(index < 0 ? k.imports - 1 : k.places.get(index) ?? NaN);
-  return runs(contents.firstEntries).map(([begin, list]) => [0, OP.i32Const, s32(begin), OP.end, vector(list.map(place))]);
+  return runs(contents.firstEntries).map(([begin, list]) =>
+    [0, OP.i32Const, s32(begin), OP.end, vector(list.map(place))]);
 }
 
 /**
@@ -119,9 +121,11 @@ function bodies(k, types) {
     float: (/** @type {number} */ op) => k.floatPlaces.get(op) ?? NaN,
     global: (/** @type {number} */ index) => places.get(index) ?? NaN,
     type: (/** @type {FunctionType} */ type) => types.index(type),
-    results: (/** @type {number} */ index) => (m.functions[index].results.length > 1 ? m.functions[index].results.map(result) : []),
+    results: (/** @type {number} */ index) =>
+      (m.functions[index].results.length > 1 ? m.functions[index].results.map(result) : []),
   };
-  return k.kept.map(index => (k.entered.has(index) ? bodyBytes(m, index, to, null) : flat([0, OP.unreachable, OP.end])));
+  return k.kept.map(index =>
+    (k.entered.has(index) ? bodyBytes(m, index, to, null) : flat([0, OP.unreachable, OP.end])));
 }
 
 /**
@@ -134,7 +138,8 @@ function bodies(k, types) {
 export function keptBytes(k, state, contents, used) {
   const { plan } = k;
   const types = new TypeList();
-  const usesMemory = [...k.entered].some(index => plan.needs(index).memory) || contents.writtenBytes > 0 || contents.grows;
+  const usesMemory = [...k.entered].some(index => plan.needs(index).memory) || contents.writtenBytes > 0
+    || contents.grows;
   const usesTable = plan.usesTable && [...k.entered].some(index => plan.needs(index).table);
   const imports = importTypes(k).map((type, place) =>
     importItem(k.importNames[place][0], k.importNames[place][1], KIND.function, u32(types.index(type))));

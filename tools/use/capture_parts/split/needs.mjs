@@ -32,7 +32,8 @@ const HAS_MAXIMUM = 1;
  */
 
 /** @param {FunctionType} type */
-const hasNumericTypes = type => [...type.params, ...type.results].every(isNumeric) && type.params.length <= MOST_PARAMETERS;
+const hasNumericTypes = type => [...type.params, ...type.results].every(isNumeric)
+  && type.params.length <= MOST_PARAMETERS;
 
 /**
  * Whether a function of this type can be of K: numbers alone, and at most one result.
@@ -57,7 +58,8 @@ class Survey {
     this.table = table;
     this.isOutlined = isOutlined;
     /** @type {Needs} */
-    this.found = { why: null, calls: new Set(), floats: new Set(), globals: new Set(), setGlobals: new Set(), memory: false,
+    this.found = { why: null, calls: new Set(), floats: new Set(), globals: new Set(), setGlobals: new Set(),
+      memory: false,
       table: false, indirect: new Set(), changesTable: false, isUnknown: false };
   }
 
@@ -87,7 +89,7 @@ class Survey {
     const { op } = item;
     if (isIntegerOperation(op) || (op >= OP.i32Const && op <= OP.f64Const)) return;
     if (op >= OP.firstLoad && op <= OP.memoryGrow) this.memory(item);
-    else if (op === OP.memoryCopy || op === OP.memoryFill) this.memory({ ...item, memory: (item.index ?? 0) + (item.second ?? 0) });
+    else if (op === OP.memoryCopy || op === OP.memoryFill) this.range(item);
     else if (FLOAT_TYPES.has(op)) this.float(op);
     else if (op === OP.call) this.call(item.index ?? 0);
     else if (op === OP.callIndirect) this.callIndirect(item.index ?? 0, item.second ?? 0);
@@ -103,6 +105,11 @@ class Survey {
     const number = op === OP.memorySize || op === OP.memoryGrow ? index : memory;
     if ((number ?? 0) > 0) this.no('a second memory');
     if (this.m.memories[0].flags > HAS_MAXIMUM) this.no('a shared or 64-bit memory');
+  }
+
+  /** @param {Instruction} item */
+  range(item) {
+    this.memory({ ...item, memory: (item.index ?? 0) + (item.second ?? 0) });
   }
 
   /** @param {number} op */

@@ -5,10 +5,13 @@ import { instructionNumber } from '../../wasm/instruction_names.mjs';
 /** @typedef {import('../../wasm/value_types.mjs').FunctionType} FunctionType */
 
 export const OP = {
-  unreachable: 0x00, block: 0x02, if: 0x04, else: 0x05, end: 0x0b, br: 0x0c, brIf: 0x0d, brTable: 0x0e, return: 0x0f, call: 0x10,
+  unreachable: 0x00, block: 0x02, if: 0x04, else: 0x05, end: 0x0b, br: 0x0c, brIf: 0x0d, brTable: 0x0e, return: 0x0f,
+  call: 0x10,
   callIndirect: 0x11, select: 0x1b, selectTyped: 0x1c, localGet: 0x20, localSet: 0x21, localTee: 0x22, globalGet: 0x23,
-  globalSet: 0x24, firstLoad: 0x28, firstStore: 0x36, lastStore: 0x3e, memorySize: 0x3f, memoryGrow: 0x40, i32Const: 0x41,
-  i64Const: 0x42, f32Const: 0x43, f64Const: 0x44, refFunc: 0xd2, memoryInit: 0xfc008, dataDrop: 0xfc009, memoryCopy: 0xfc00a,
+  globalSet: 0x24, firstLoad: 0x28, firstStore: 0x36, lastStore: 0x3e, memorySize: 0x3f, memoryGrow: 0x40,
+  i32Const: 0x41,
+  i64Const: 0x42, f32Const: 0x43, f64Const: 0x44, refFunc: 0xd2, memoryInit: 0xfc008, dataDrop: 0xfc009,
+  memoryCopy: 0xfc00a,
   memoryFill: 0xfc00b,
 };
 
@@ -20,8 +23,8 @@ export const LOADED_BYTES = [4, 8, 4, 8, 1, 1, 2, 2, 1, 1, 2, 2, 4, 4];
 export const STORED_BYTES = [4, 8, 4, 8, 1, 2, 1, 2, 4];
 
 /**
- * K owns whole blocks of the memory, of so many bytes, for a turn: their bytes are those that K knows, so that its accesses
- * need no watch.
+ * K owns whole blocks of the memory, of so many bytes, for a turn: their bytes are those that K knows, so that its
+ * accesses need no watch.
  */
 export const BLOCK_BITS = 10;
 export const BLOCK = 1 << BLOCK_BITS;
@@ -42,7 +45,8 @@ const RANGES = /** @type {[string, string, number[], number][]} */ ([
   ['f32.convert_i64_s', 'f32.convert_i64_u', [I64], F32], ['f32.demote_f64', 'f32.demote_f64', [F64], F32],
   ['f64.convert_i32_s', 'f64.convert_i32_u', [I32], F64], ['f64.convert_i64_s', 'f64.convert_i64_u', [I64], F64],
   ['f64.promote_f32', 'f64.promote_f32', [F32], F64], ['i32.trunc_sat_f32_s', 'i32.trunc_sat_f32_u', [F32], I32],
-  ['i32.trunc_sat_f64_s', 'i32.trunc_sat_f64_u', [F64], I32], ['i64.trunc_sat_f32_s', 'i64.trunc_sat_f32_u', [F32], I64],
+  ['i32.trunc_sat_f64_s', 'i32.trunc_sat_f64_u', [F64], I32],
+  ['i64.trunc_sat_f32_s', 'i64.trunc_sat_f32_u', [F32], I64],
   ['i64.trunc_sat_f64_s', 'i64.trunc_sat_f64_u', [F64], I64],
 ]);
 
@@ -54,7 +58,8 @@ export const FLOAT_TYPES = new Map(RANGES.flatMap(([first, last, params, result]
 }));
 
 /**
- * Whether an instruction is a numeric one that r3 takes, without immediates: on integers, or between their bits and floats.
+ * Whether an instruction is a numeric one that r3 takes, without immediates: on integers, or between their bits and
+ * floats.
  * @param {number} op
  */
 export function isIntegerOperation(op) {

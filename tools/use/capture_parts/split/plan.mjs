@@ -108,7 +108,8 @@ function reached(m, all, roots) {
 function heldFunctions(m) {
   const held = new Set(/** @type {number[]} */ (inSegments(m)));
   for (const item of m.exports) if (item.kind === KIND.function) held.add(item.index);
-  for (const { init } of m.globals) for (const item of init?.all ?? []) if (item.op === OP.refFunc) held.add(item.index ?? 0);
+  for (const { op, index = 0 } of m.globals.flatMap(({ init }) =>
+      init?.all ?? [])) if (op === OP.refFunc) held.add(index);
   return held;
 }
 
@@ -155,7 +156,8 @@ function division(m, choice, all) {
 function unsteady(m, globals, rest) {
   const isUnknown = rest.some(needs => needs.isUnknown);
   const exported = new Set(m.exports.filter(item => item.kind === KIND.global).map(item => item.index));
-  return globals.filter(index => m.globals[index].mutable && (isUnknown || index < m.importedGlobals || exported.has(index)
+  return globals.filter(index => m.globals[index].mutable
+    && (isUnknown || index < m.importedGlobals || exported.has(index)
     || rest.some(needs => needs.setGlobals.has(index))));
 }
 
@@ -173,7 +175,8 @@ export function planOf(bytes, choice) {
   const all = m.bodies.map((_, defined) => needsOf(m, m.importedFunctions + defined, table, isOutlined));
   const { kept, why } = division(m, choice, all);
   if (kept.length === 0) throw new NotSplit(`no function of it can be kept${firstReasons(why)}`);
-  return { m, choice, names: functionNames(m), table, kept, why, slots: new Map(kept.map((index, slot) => [index, slot])),
+  return { m, choice, names: functionNames(m), table, kept, why,
+    slots: new Map(kept.map((index, slot) => [index, slot])),
     ...border(m, all, kept), prefix: freePrefix(m) };
 }
 
@@ -236,7 +239,8 @@ function border(m, all, kept) {
   if (usesTable) for (const index of held) if (!isKept.has(index) && isCore(m.functions[index])) callees.add(index);
   /** @type {Map<string, FunctionType>} */
   const indirect = new Map();
-  for (const index of kept) for (const type of needs(index).indirect) indirect.set(typeKey(m.types[type]), m.types[type]);
+  for (const type of kept.flatMap(index => [...needs(index).indirect])) indirect.set(typeKey(m.types[type]),
+      m.types[type]);
   /** @param {Iterable<number>} list */
   const sorted = list => [...list].sort((one, other) => one - other);
   const globals = sorted(new Set(kept.flatMap(index => [...needs(index).globals])));

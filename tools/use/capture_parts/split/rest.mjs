@@ -29,7 +29,8 @@ export const REST_NAMES = {
 function furtherExports(p) {
   const { m, prefix } = p;
   const functions = new Set([...p.held, ...p.callees, ...m.start === null ? [] : [m.start]]);
-  const imported = m.globals.flatMap(({ type }, index) => (index < m.importedGlobals && isNumeric(type) ? [index] : []));
+  const imported = m.globals.flatMap(({ type }, index) =>
+    (index < m.importedGlobals && isNumeric(type) ? [index] : []));
   const globals = new Set([...p.globals, ...imported]);
   return [
     exportItem(prefix + REST_NAMES.trampolines, KIND.table, m.tables.length),
@@ -78,8 +79,9 @@ function longer(bytes, id, old, items) {
 }
 
 /**
- * R: M with trampolines for the kept functions, which call through one more table; with more exports, by names that begin
- * with the plan's prefix; and without a start function, which is called by its export when the further table is filled.
+ * R: M with trampolines for the kept functions, which call through one more table; with more exports, by names that
+ * begin with the plan's prefix; and without a start function, which is called by its export when the further table is
+ * filled.
  * @param {Plan} p
  */
 export function restBytes(p) {
@@ -97,7 +99,7 @@ export function restBytes(p) {
     const items = added.get(item.id);
     if (items !== undefined && added.delete(item.id)) parts.push(longer(m.bytes, item.id, item, items));
     else if (item.id === SECTION.code) parts.push(section(item.id, vector(bodies(p))));
-    else if (item.id !== SECTION.start) parts.push([item.id, u32(item.end - item.begin), m.bytes.subarray(item.begin, item.end)]);
+    else if (item.id !== SECTION.start) parts.push(section(item.id, m.bytes.subarray(item.begin, item.end)));
   }
   addMissing(Infinity);
   return flat(parts);

@@ -31,8 +31,8 @@ class Names {
 }
 
 /**
- * K as it is written. The functions of K are numbered as r3 numbers them: imports, then those of K; functions of the host's
- * own are counted between them in a history.
+ * K as it is written. The functions of K are numbered as r3 numbers them: imports, then those of K; functions of the
+ * host's own are counted between them in a history.
  * @typedef {object} Trimmed
  * @property {Plan} plan
  * @property {number[]} kept
@@ -89,7 +89,8 @@ function resultGlobals(plan, callees) {
   /** @type {Map<string, { place: number, type: number, name: string }>} */
   const found = new Map();
   for (const { results } of callees.map(index => plan.m.functions[index]).filter(type => type.results.length > 1)) {
-    results.forEach((type, place) => found.set(`${place} ${type}`, { place, type, name: `result ${place} ${typeName(type)}` }));
+    results.forEach((type, place) =>
+      found.set(`${place} ${type}`, { place, type, name: `result ${place} ${typeName(type)}` }));
   }
   return [...found.values()];
 }
@@ -103,7 +104,8 @@ function resultGlobals(plan, callees) {
  */
 export function trimmedPlan(plan, slots, contents) {
   const entered = new Set([...slots].map(slot => plan.kept[slot]));
-  const called = [...contents.importCalls.keys()].flatMap(place => (place < plan.callees.length ? [plan.callees[place]] : []));
+  const called = [...contents.importCalls.keys()].flatMap(place =>
+    (place < plan.callees.length ? [plan.callees[place]] : []));
   const hostCalled = [...contents.hostCalls.keys()].map(slot => plan.kept[slot]);
   const ofBodies = [...entered].flatMap(index => [...plan.needs(index).calls]);
   const needed = new Set([...entered, ...called, ...hostCalled, ...contents.entryFunctions, ...ofBodies]);
@@ -113,18 +115,22 @@ export function trimmedPlan(plan, slots, contents) {
   const floats = plan.floats.filter(op => ops.has(op));
   const { hasOther } = contents;
   const imports = callees.length + floats.length + Number(hasOther);
-  const wanted = [...callees.map(index => calleeNames(plan, index)), ...floats.map(op => [floatModule(plan), instructionName(op)]),
+  const wanted = [...callees.map(index => calleeNames(plan, index)),
+    ...floats.map(op => [floatModule(plan), instructionName(op)]),
     ...hasOther ? [['rest', OTHER_NAME]] : []];
   const names = new Names();
   const exported = new Set([...hostCalled, ...contents.setFunctions]);
   return { plan, kept, callees, floats, hasOther, entered, imports,
-    places: new Map([...callees.map((index, place) => entry(index, place)), ...kept.map((index, place) => entry(index, imports + place))]),
+    places: new Map([...callees.map((index, place) => entry(index, place)),
+      ...kept.map((index, place) => entry(index, imports + place))]),
     floatPlaces: new Map(floats.map((op, place) => [op, callees.length + place])),
     importNames: freePairs(wanted, place => `func ${callees[place] ?? place}`),
     functionNames: new Map([...exported].map(index => [index, names.free(plan.names[index], `func ${index}`)])),
-    globalNames: new Map([...contents.setGlobals].map(index => [index, names.free(`global ${index}`, 'of the module')])),
+    globalNames: new Map([...contents.setGlobals].map(index =>
+      [index, names.free(`global ${index}`, 'of the module')])),
     results: resultGlobals(plan, callees).map(item => ({ ...item, name: names.free(item.name, 'of the border') })),
-    otherName: names.free(OTHER_NAME, 'of the border'), freeName: wantedName => names.free(wantedName, 'of the border') };
+    otherName: names.free(OTHER_NAME, 'of the border'), freeName: wantedName =>
+      names.free(wantedName, 'of the border') };
 }
 
 /**

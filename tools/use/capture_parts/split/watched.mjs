@@ -13,7 +13,9 @@ import { calleeTypes } from './plan.mjs';
 export const LOAD_NAMES = LOADED.map((_, place) => `load ${place}`);
 export const STORE_NAMES = STORED.map((_, place) => `store ${place}`);
 
-/** The functions that watch K, by their names, with their types. Those of loads and stores give what a site is set to. */
+/**
+ * The functions that watch K, by their names, with their types. Those of loads and stores give what a site is set to.
+ */
 const HELPERS = /** @type {[string, FunctionType][]} */ ([
   ...LOAD_NAMES.map((text, place) => [text, { params: [LOADED[place], I32, I64], results: [I64] }]),
   ...STORE_NAMES.map((text, place) => [text, { params: [I32, STORED[place], I64], results: [I64] }]),
@@ -35,8 +37,8 @@ export const KEPT_NAMES = {
 };
 
 /**
- * The numbers of K's globals: those of M, then one for each function, one for each function with floats, the turn, a number
- * of what was loaded, and the sites of accesses.
+ * The numbers of K's globals: those of M, then one for each function, one for each function with floats, the turn, a
+ * number of what was loaded, and the sites of accesses.
  */
 class Globals {
   /** @param {Plan} p */
@@ -73,7 +75,8 @@ class Globals {
  */
 function imports(p, types) {
   const { m } = p;
-  const callees = calleeTypes(p).map((type, place) => importItem('callee', String(place), KIND.function, u32(types.index(type))));
+  const callees = calleeTypes(p).map((type, place) =>
+    importItem('callee', String(place), KIND.function, u32(types.index(type))));
   const helpers = HELPERS.map(([text, type]) => importItem('watch', text, KIND.function, u32(types.index(type))));
   const memory = p.usesMemory ? [importItem('rest', 'memory', KIND.memory, limits(m.memories[0]))] : [];
   const globals = p.globals.map(index => {
@@ -91,7 +94,8 @@ function imports(p, types) {
  */
 function exports(p, globals, first) {
   const list = [exportItem(KEPT_NAMES.probe, KIND.function, first + p.kept.length),
-    exportItem(KEPT_NAMES.turned, KIND.function, first + p.kept.length + 1), exportItem(KEPT_NAMES.hash, KIND.global, globals.hash)];
+    exportItem(KEPT_NAMES.turned, KIND.function, first + p.kept.length + 1),
+    exportItem(KEPT_NAMES.hash, KIND.global, globals.hash)];
   p.kept.forEach((index, slot) => {
     list.push(exportItem(KEPT_NAMES.function(slot), KIND.function, first + slot));
     list.push(exportItem(KEPT_NAMES.entered(slot), KIND.global, globals.firstEntered + slot));
@@ -101,7 +105,8 @@ function exports(p, globals, first) {
   if (!p.usesTable) return list;
   list.push(exportItem(KEPT_NAMES.table, KIND.table, 0));
   p.callees.forEach((index, place) => {
-    if (p.held.has(index) && p.m.functions[index].results.length <= 1) list.push(exportItem(KEPT_NAMES.callee(place), KIND.function, place));
+    const isInTable = p.held.has(index) && p.m.functions[index].results.length <= 1;
+    if (isInTable) list.push(exportItem(KEPT_NAMES.callee(place), KIND.function, place));
   });
   return list;
 }
@@ -117,7 +122,8 @@ function exports(p, globals, first) {
 function bodies(p, globals, types, first, isHashing) {
   const at = (/** @type {string} */ text) => first - HELPERS.length + HELPERS.findIndex(([other]) => other === text);
   const watch = { load: LOAD_NAMES.map(at), store: STORE_NAMES.map(at), copies: at('copies'), fills: at('fills'),
-    grown: at('grown'), entry: at('entry'), turn: globals.turn, site: () => globals.site(), hash: isHashing ? globals.hash : null };
+    grown: at('grown'), entry: at('entry'), turn: globals.turn, site: () => globals.site(),
+    hash: isHashing ? globals.hash : null };
   const floats = new Map(p.floats.map((op, place) => [op, p.callees.length + place]));
   const callees = new Map(p.callees.map((index, place) => [index, place]));
   const places = {
@@ -146,7 +152,8 @@ export function watchedBytes(p, isHashing) {
   const own = types.index({ params: [], results: [] });
   const functions = [...p.kept.map(index => types.index(p.m.functions[index])), own, own];
   const code = bodies(p, globals, types, first, isHashing);
-  return moduleBytes({ types: types.list, imports: imported, functions, bodies: code, tables: p.usesTable ? [[FUNCREF, 0, 0]] : [],
+  return moduleBytes({ types: types.list, imports: imported, functions, bodies: code,
+    tables: p.usesTable ? [[FUNCREF, 0, 0]] : [],
     globals: globals.items(), exports: exports(p, globals, first) });
 }
 

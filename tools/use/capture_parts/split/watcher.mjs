@@ -1,7 +1,7 @@
 /**
- * The modules that watch K as it runs. One has a shadow of the memory as K knows it, and of the globals: a load that finds
- * other bytes in the memory than in the shadow calls `miss`. One looks at entries of the table before K calls by them. One
- * answers float instructions, and writes them to the log by itself.
+ * The modules that watch K as it runs. One has a shadow of the memory as K knows it, and of the globals: a load that
+ * finds other bytes in the memory than in the shadow calls `miss`. One looks at entries of the table before K calls by
+ * them. One answers float instructions, and writes them to the log by itself.
  */
 import { KIND, TypeList, exportItem, importItem, moduleBytes } from '../../wasm/assembler.mjs';
 import { constant, flat, s32, u32 } from '../../wasm/encoding.mjs';
@@ -109,7 +109,8 @@ function beginning({ address, turn, bytes, over, off }) {
   const [word, place, now] = [3, 4, 5];
   return [
     [OP.globalGet, u32(off), IF, VOID_BLOCK, siteOf(address, turn), RETURN, OP.end],
-    bytes === 1 ? [] : [get(address), i32(BLOCK - 1), AND, i32(BLOCK - bytes), 0x4b, IF, VOID_BLOCK, over, OP.i64Const, 0, RETURN, OP.end],
+    bytes === 1 ? [] : [get(address), i32(BLOCK - 1), AND, i32(BLOCK - bytes), 0x4b, IF, VOID_BLOCK, over, OP.i64Const,
+      0, RETURN, OP.end],
     [get(address), i32(BLOCK_BITS), SHIFT_RIGHT, i32(2), SHIFT_LEFT, OP.localTee, place, LOAD[I32], 2, 0, set(word)],
     [get(turn), OP.i64Const, s32(32), 0x88, 0xa7, i32(STATE_BITS), SHIFT_LEFT, set(now)],
     [get(word), i32(~STATE), AND, get(now), 0x47, IF, VOID_BLOCK, get(now), set(word), OP.end],
@@ -138,16 +139,20 @@ function addAccesses(functions, js, off, accesses) {
     const [type, bytes] = [LOADED[place], LOADED_BYTES[place]];
     const noted = [get(1), OP.firstLoad + place - (isFloat(type) ? 2 : 0), 0, u32(SHADOW)];
     const isOwned = [get(3), i32(STATE), AND, i32(OWNED), 0x4f, IF, VOID_BLOCK, siteOf(1, 2), RETURN, OP.end];
-    const compared = [get(0), asInteger(type), noted, notEqual(type), IF, VOID_BLOCK, get(1), i32(bytes), call(js.miss), OP.end];
+    const compared = [get(0), asInteger(type), noted, notEqual(type), IF, VOID_BLOCK, get(1), i32(bytes), call(js.miss),
+      OP.end];
     const begin = beginning({ address: 1, turn: 2, bytes, over: [get(1), i32(bytes), call(js.over)], off });
-    functions.add(text, [type, I32, I64], [I64], [begin, isOwned, compared, ending(accesses, [get(1), call(js.own)], siteOf(1, 2))], locals);
+    functions.add(text, [type, I32, I64], [I64],
+      [begin, isOwned, compared, ending(accesses, [get(1), call(js.own)], siteOf(1, 2))], locals);
   });
   STORE_NAMES.forEach((text, place) => {
     const [type, bytes] = [STORED[place], STORED_BYTES[place]];
     const known = [get(0), get(1), OP.firstStore + place, 0, u32(SHADOW)];
-    const isOwned = [get(3), i32(STATE), AND, i32(OWNED_FOR_STORES), 0x46, IF, VOID_BLOCK, siteOf(0, 2), RETURN, OP.end];
+    const isOwned = [get(3), i32(STATE), AND, i32(OWNED_FOR_STORES), 0x46, IF, VOID_BLOCK, siteOf(0, 2), RETURN,
+      OP.end];
     const begin = beginning({ address: 0, turn: 2, bytes, over: known, off });
-    functions.add(text, [I32, type, I64], [I64], [begin, isOwned, known, ending(accesses, [get(0), call(js.ownForStores)], siteOf(0, 2))], locals);
+    functions.add(text, [I32, type, I64], [I64],
+      [begin, isOwned, known, ending(accesses, [get(0), call(js.ownForStores)], siteOf(0, 2))], locals);
   });
 }
 
@@ -180,8 +185,10 @@ function addGlobals(functions, p) {
  */
 export function shadowBytes(p, pages, accesses) {
   const functions = new Functions();
-  const js = { miss: functions.importFunction('js', 'miss', [I32, I32], []), over: functions.importFunction('js', 'over', [I32, I32], []),
-    own: functions.importFunction('js', 'own', [I32], []), ownForStores: functions.importFunction('js', 'ownForStores', [I32], []) };
+  const js = { miss: functions.importFunction('js', 'miss', [I32, I32], []),
+    over: functions.importFunction('js', 'over', [I32, I32], []),
+    own: functions.importFunction('js', 'own', [I32], []),
+    ownForStores: functions.importFunction('js', 'ownForStores', [I32], []) };
   for (const index of p.unsteadyGlobals) {
     functions.imports.push(importItem('rest', `global ${index}`, KIND.global, [p.m.globals[index].type, 1]));
   }
@@ -189,12 +196,13 @@ export function shadowBytes(p, pages, accesses) {
   addAccesses(functions, js, off, accesses);
   const globals = addGlobals(functions, p);
   functions.exports.push(exportItem('memory', KIND.memory, 0), exportItem('off', KIND.global, off));
-  return functions.bytes({ memories: [[0, u32(SHADOW_PAGES + pages)]], globals: [...globals, [I32, 1, i32(0), OP.end]] });
+  return functions.bytes({ memories: [[0, u32(SHADOW_PAGES + pages)]],
+    globals: [...globals, [I32, 1, i32(0), OP.end]] });
 }
 
 /**
- * `entry(i)` gives i. It calls `js.entry` first if the word of the entry is not the present epoch, the first word of the
- * memory. The words of entries follow it.
+ * `entry(i)` gives i. It calls `js.entry` first if the word of the entry is not the present epoch, the first word of
+ * the memory. The words of entries follow it.
  * @param {number} pages
  */
 export function entriesBytes(pages) {
@@ -241,7 +249,8 @@ export function floatBytes(p) {
     const { params, results: [result] } = floatType(op);
     const place = p.callees.length + number;
     const [value, at] = [params.length, params.length + 1];
-    const code = [params.map((_, index) => get(index)), op >= 1 << PREFIX_BITS ? [op >> PREFIX_BITS, u32(op & 0xfff)] : op];
+    const code = [params.map((_, index) => get(index)),
+      op >= 1 << PREFIX_BITS ? [op >> PREFIX_BITS, u32(op & 0xfff)] : op];
     let offset = 4;
     const args = params.map((type, index) => {
       const part = logged(type, get(index), at, offset);
@@ -256,7 +265,8 @@ export function floatBytes(p) {
     const after = [read(LOG.isOver), 0x45, 0x04, VOID_BLOCK, read(LOG.position), set(at),
       get(at), i32(place * 8 + IMPORT_RETURN), STORE[I32], 2, 0, logged(result, get(value), at, 4),
       movedOn(at, 1 + wordsOf([result])), OP.end];
-    functions.add(`float ${place}`, params, [result], [before, code, set(value), after, get(value)], [2, 1, result, 1, I32]);
+    functions.add(`float ${place}`, params, [result], [before, code, set(value), after, get(value)],
+      [2, 1, result, 1, I32]);
   });
   return functions.bytes({});
 }

@@ -1,7 +1,7 @@
 /**
- * The check of K: each of its bodies is that of its function in M, instruction for instruction. Numbers of functions, types
- * and globals may be others, but one and the same for each, and of the same type. A float instruction may be the call of an
- * import that has its name. A function that did not run is a trap alone.
+ * The check of K: each of its bodies is that of its function in M, instruction for instruction. Numbers of functions,
+ * types and globals may be others, but one and the same for each, and of the same type. A float instruction may be the
+ * call of an import that has its name. A function that did not run is a trap alone.
  */
 import { FLOATS, SATURATING } from './float_names.mjs';
 import { NotEqual, bodyAt, contents } from './reader.mjs';
@@ -13,7 +13,8 @@ import { NotEqual, bodyAt, contents } from './reader.mjs';
 const [BLOCK, IF, END, CALL, CALL_INDIRECT, SELECT, SELECT_TYPED, GLOBAL_GET, GLOBAL_SET, EMPTY] =
   [0x02, 0x04, 0x0b, 0x10, 0x11, 0x1b, 0x1c, 0x23, 0x24, -64n];
 
-const shown = (/** @type {unknown} */ value) => JSON.stringify(value, (_, item) => (typeof item === 'bigint' ? String(item) : item));
+const shown = (/** @type {unknown} */ value) =>
+  JSON.stringify(value, (_, item) => (typeof item === 'bigint' ? String(item) : item));
 
 /**
  * Whether two values are the same, with all that is in them.
@@ -69,7 +70,8 @@ class Check {
   functions() {
     hold(this.taken.size === this.places.size, 'two functions of M have the same place in K');
     for (const [index, place] of this.places) {
-      hold(index < this.m.functions.length && place < this.k.functions.length, `function ${index} has the place ${place}`);
+      hold(index < this.m.functions.length && place < this.k.functions.length,
+        `function ${index} has the place ${place}`);
       const [own, other] = [this.type(this.m, index), this.type(this.k, place)];
       const hasSeveral = own.results.length > 1 && place < this.k.imported;
       hold(same(other, hasSeveral ? { ...own, results: [] } : own), `function ${index} has another type`);
@@ -101,7 +103,8 @@ class Check {
     let at = 0;
     own.code.forEach((instruction, number) => {
       const found = kept.code[at++];
-      hold(found !== undefined && this.isSame(instruction, found), `${where}: instruction ${number}: ${shown(instruction)} is ${shown(found)}`);
+      hold(found !== undefined && this.isSame(instruction, found),
+        `${where}: instruction ${number}: ${shown(instruction)} is ${shown(found)}`);
       if (instruction.op !== CALL) return;
       const { results } = this.type(this.m, Number(instruction.values[0]));
       if (results.length > 1) at = this.results(where, results, kept.code, at);
@@ -120,7 +123,8 @@ class Check {
     const numbers = results.map((type, place) => {
       const { op, values } = code[from + place] ?? item(0x00);
       const global = this.k.globals[Number(values[0])];
-      hold(op === GLOBAL_GET && same(global, { type, mutable: 1 }), `${where}: result ${place} does not come through a global`);
+      hold(op === GLOBAL_GET && same(global, { type, mutable: 1 }),
+        `${where}: result ${place} does not come through a global`);
       hold(!this.globals.has(Number(values[0])), `${where}: result ${place} comes through a global of M`);
       return Number(values[0]);
     });
@@ -140,7 +144,8 @@ class Check {
     if (own.op !== kept.op || own.second !== kept.second) return false;
     if (own.op === CALL) return this.places.get(Number(own.values[0])) === Number(kept.values[0]);
     if (own.op === CALL_INDIRECT) return this.isSameIndirectCall(own, kept);
-    if (own.op === GLOBAL_GET || own.op === GLOBAL_SET) return this.isSameGlobal(Number(own.values[0]), Number(kept.values[0]));
+    if (own.op === GLOBAL_GET || own.op === GLOBAL_SET) return this.isSameGlobal(Number(own.values[0]),
+        Number(kept.values[0]));
     return same(own.values, kept.values);
   }
 

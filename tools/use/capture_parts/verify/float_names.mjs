@@ -20,5 +20,6 @@ export const FLOATS = new Map([
 ]);
 
 /** By the numbers behind the prefix 0xfc. */
-export const SATURATING = new Map(names(0, `${of('i32', 'trunc_sat_f32_s trunc_sat_f32_u trunc_sat_f64_s trunc_sat_f64_u')} ${
+export const SATURATING =
+  new Map(names(0, `${of('i32', 'trunc_sat_f32_s trunc_sat_f32_u trunc_sat_f64_s trunc_sat_f64_u')} ${
   of('i64', 'trunc_sat_f32_s trunc_sat_f32_u trunc_sat_f64_s trunc_sat_f64_u')}`));

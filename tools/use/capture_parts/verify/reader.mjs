@@ -1,6 +1,6 @@
 /**
- * A reader of modules for the check alone. It shares no code with what makes K, and knows the instructions that K may have
- * and those that they stand for.
+ * A reader of modules for the check alone. It shares no code with what makes K, and knows the instructions that K may
+ * have and those that they stand for.
  */
 
 /** Thrown where the check does not know something, or K is not M's. The message is one line. */
@@ -92,6 +92,30 @@ function skipExpression(r) {
 }
 
 /**
+ * @param {Bytes} r
+ * @returns {Signature}
+ */
+function signature(r) {
+  r.next();
+  return { params: r.vector(() => r.next()), results: r.vector(() => r.next()) };
+}
+/** @param {Bytes} r */
+function global(r) {
+  const item = { type: r.next(), mutable: r.next() };
+  skipExpression(r);
+  return item;
+}
+/**
+ * @param {Bytes} r
+ * @returns {[number, number]}
+ */
+function range(r) {
+  const length = r.count();
+  r.at += length;
+  return [r.at - length, r.at];
+}
+
+/**
  * The contents of a module, as far as bodies speak of them.
  * @param {Uint8Array} bytes
  * @returns {Contents}
@@ -105,12 +129,12 @@ export function contents(bytes) {
     const size = whole.count();
     const r = new Bytes(bytes, whole.at, whole.at + size);
     whole.at += size;
-    if (id === 1) found.types = r.vector(() => { r.next(); return { params: r.vector(() => r.next()), results: r.vector(() => r.next()) }; });
+    if (id === 1) found.types = r.vector(() => signature(r));
     else if (id === 2) readImports(r, found);
     else if (id === 3) found.functions.push(...r.vector(() => r.count()));
     else if (id === 4) found.tables.push(...r.vector(() => { const type = r.next(); limits(r); return type; }));
-    else if (id === 6) found.globals.push(...r.vector(() => { const item = { type: r.next(), mutable: r.next() }; skipExpression(r); return item; }));
-    else if (id === 10) found.bodies = r.vector(() => { const length = r.count(); r.at += length; return /** @type {[number, number]} */ ([r.at - length, r.at]); });
+    else if (id === 6) found.globals.push(...r.vector(() => global(r)));
+    else if (id === 10) found.bodies = r.vector(() => range(r));
   }
   return found;
 }
@@ -133,11 +157,14 @@ function readImports(r, found) {
   }
 }
 
-/** The immediates of an instruction: u unsigned, s signed, 4 and 8 raw bytes, v a vector of unsigned, b a block's type. */
+/**
+ * The immediates of an instruction: u unsigned, s signed, 4 and 8 raw bytes, v a vector of unsigned, b a block's type.
+ */
 function immediates(/** @type {number} */ op) {
   if (op >= 0x02 && op <= 0x04) return 'b';
   if (op === 0x0e) return 'vu';
-  if (op === 0x0c || op === 0x0d || op === 0x10 || (op >= 0x20 && op <= 0x24) || op === 0x3f || op === 0x40 || op === 0xd2) return 'u';
+  if (op === 0x0c || op === 0x0d || op === 0x10 || (op >= 0x20 && op <= 0x24) || op === 0x3f || op === 0x40
+      || op === 0xd2) return 'u';
   if (op === 0x11 || (op >= 0x28 && op <= 0x3e)) return 'uu';
   if (op === 0x1c) return 'v';
   if (op === 0x41 || op === 0x42) return 's';
