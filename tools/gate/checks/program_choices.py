@@ -6,7 +6,7 @@ import subprocess
 
 from captures import major_version
 from group import contents
-from programs import CAPTURE, OLDEST, captured, checks_of_folder, environment, put_programs
+from programs import CAPTURE, OLDEST, captured, checks_of_folder, environment, put_programs, run
 
 # bad() calls h.f with 0, and good(x) with x.
 THROWING = bytes.fromhex(
@@ -25,6 +25,60 @@ const some = crypto.getRandomValues(new Int32Array(2));
 const numbers = [Math.random() * 2 ** 31, Date.now() % 2 ** 31, new Date().getTime() % 2 ** 31, performance.now() * 1000, some[0], some[1],
   process.hrtime()[1], Number(process.hrtime.bigint() % 1000000007n), ...fs.readFileSync(0)];
 for (const number of numbers) console.log(good(number | 1));
+"""
+
+
+# What the interface for JavaScript shows of itself. A program that prints this prints the same with a capture.
+INTERFACE = """
+import fs from 'node:fs';
+const bytes = fs.readFileSync('throwing.wasm');
+const W = WebAssembly;
+const f = number => number;
+const imports = { h: { f } };
+const said = [];
+const tried = async (name, call) => {
+  try { const value = await call(); said.push([name, Object.prototype.toString.call(value), String(value)]); }
+  catch (error) { said.push([name, error.constructor.name, error.message]); }
+};
+const module = new W.Module(bytes);
+for (const wrong of [undefined, 5, {}, new Uint8Array(3), Uint8Array.of(0, 97, 115, 109, 2, 0, 0, 0)]) {
+  await tried('Module', () => new W.Module(wrong));
+  await tried('compile', () => W.compile(wrong));
+  await tried('instantiate', () => W.instantiate(wrong, imports));
+  await tried('Instance', () => new W.Instance(wrong, imports));
+  await tried('validate', () => W.validate(wrong));
+}
+for (const wrong of [undefined, 5, {}, { h: 1 }, { h: {} }, { h: { f: 1 } }]) {
+  await tried('Instance of', () => new W.Instance(module, wrong));
+  await tried('instantiate of', () => W.instantiate(module, wrong));
+  await tried('instantiate of bytes', () => W.instantiate(bytes, wrong));
+}
+await tried('without new', () => W.Instance(module, imports));
+await tried('Memory', () => new W.Memory({}));
+await tried('Table', () => new W.Table({ element: 'anyfunc', initial: 2, maximum: 1 }));
+await tried('stream', () => W.compileStreaming(new Response(bytes)));
+await tried('stream of a type', () => W.compileStreaming(new Response(bytes, { headers: { 'content-type': 'application/wasm' } })));
+await tried('no stream', () => W.instantiateStreaming(5, imports));
+class Own extends W.Instance { get answer() { return 42; } }
+const all = [new W.Instance(module, imports), await W.instantiate(module, imports), (await W.instantiate(bytes, imports)).instance,
+  new Own(module, imports),
+  (await W.instantiateStreaming(new Response(bytes, { headers: { 'content-type': 'application/wasm' } }), imports)).instance,
+  new W.Instance(structuredClone(module), imports)];
+for (const instance of all) {
+  const { exports } = instance;
+  said.push([instance instanceof W.Instance, instance.constructor === W.Instance, instance instanceof Own, instance.answer,
+    Object.getOwnPropertyNames(instance), Object.keys(exports), Object.isFrozen(exports), Object.getPrototypeOf(exports),
+    exports === instance.exports, exports.good.name, exports.good.length, exports.good(7), exports.good === exports.good]);
+}
+said.push(W.Module.exports(module), W.Module.imports(module), W.Module.customSections(module, 'name'));
+for (const name of Object.getOwnPropertyNames(W).sort()) {
+  const { value, get, ...flags } = Object.getOwnPropertyDescriptor(W, name);
+  said.push([name, typeof value, value?.name, value?.length, flags, value?.prototype?.constructor === value]);
+}
+const { get, ...flags } = Object.getOwnPropertyDescriptor(W.Instance.prototype, 'exports');
+said.push([get.name, get.length, flags, process.execArgv, Object.keys(process.env).filter(name => name.startsWith('R3_C'))]);
+await tried('getter', () => get.call({}));
+console.log(said.map(item => JSON.stringify(item)).join('\\n'));
 """
 
 
@@ -70,6 +124,22 @@ def again(group):
     with open(group.put("input", b"..input"), "rb", buffering=0) as file:
         file.read(2)
         run_again(group, "input by a file", stdin=file)
+
+
+def interface(group):
+    group.put("interface.mjs", INTERFACE.encode())
+    env = {**os.environ, "R3_PROGRAM": group.program}
+    plain = run(group, ["node", "interface.mjs"], env=env)
+    answer, _, report = captured(group, "interface", ["--all", "interface.mjs"], env=env)
+    lines = [text.decode().splitlines() for text in (plain.out, answer.out)]
+    others = [pair for pair in zip(*lines) if pair[0] != pair[1]]
+    group.expect(
+        len(lines[0]) > 60 and len(lines[0]) == len(lines[1]) and not others,
+        f"the interface is as it would be: {others[:3]}",
+    )
+    modules = report["modules"] if report else []
+    recorded = sum(item["recorded"] and not item["of_node"] for item in modules)
+    group.expect(recorded == 5, f"five of the instances are recorded, and not {recorded}")
 
 
 def kept(group, name, words):
@@ -118,5 +188,6 @@ def checks(group):
         return
     put_programs(group)
     again(group)
+    interface(group)
     functions(group)
     floats(group)

@@ -57,10 +57,10 @@ def run(group, command, **how):
     return Answer(ran.returncode, ran.stdout, ran.stderr)
 
 
-def captured(group, name, words):
+def captured(group, name, words, **how):
     """Captures a program. Returns what it printed, its folder and its report, which is None if there is none."""
     folder = group.path(re.sub(r"\W+", "_", name))
-    answer = run(group, [CAPTURE, "-o", folder, *words])
+    answer = run(group, [CAPTURE, "-o", folder, *words], **how)
     group.expect(answer.status == 0, f"{name}: the capture ends with status 0", answer)
     report = os.path.join(folder, "report.json")
     return answer, folder, json.loads(contents(report)) if os.path.exists(report) else None

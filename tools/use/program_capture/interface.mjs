@@ -30,6 +30,9 @@ export const native = { Module, Instance, Memory, Table, Global, compile, instan
  */
 /** @typedef {() => any} Plainly makes an instance, or a promise of one, without a recording */
 
+/** Buffers may be those of another realm, so their classes are not compared. */
+const BUFFERS = ['[object ArrayBuffer]', '[object SharedArrayBuffer]'];
+
 /**
  * A copy of the bytes that a module is made from, or undefined where the engine will throw.
  * @param {any} source
@@ -37,6 +40,7 @@ export const native = { Module, Instance, Memory, Table, Global, compile, instan
 function copied(source) {
   try {
     const isView = ArrayBuffer.isView(source);
+    if (!isView && !BUFFERS.includes(Object.prototype.toString.call(source))) return undefined;
     return new Uint8Array(isView ? source.buffer : source, isView ? source.byteOffset : 0, source.byteLength).slice();
   } catch {
     return undefined;
