@@ -22,7 +22,8 @@ const MEMORY = [
     'this.known.set(this.real.subarray(begin, begin + BLOCK), begin);', ''),
   edit('what is found goes on over owned blocks', 'recorder/shadow.mjs',
     'if (this.isOwned(at >>> BLOCK_BITS) || !this.compare', 'if (!this.compare'),
-  edit('blocks stay owned for ever', 'recorder/recorder.mjs', 'turns--) this.kept[KEPT_NAMES.turned]();', 'turns--);'),
+  edit('blocks stay owned for ever', 'recorder/recorder.mjs',
+    'visits--) this.kept[KEPT_NAMES.visited]();', 'visits--);'),
   edit('blocks are owned for stores from the first load on', 'split/watcher.mjs',
     'i32(STATE), AND, i32(OWNED_FOR_STORES), 0x46', 'i32(STATE), AND, i32(OWNED), 0x4f'),
   edit('stores are not known', 'split/watcher.mjs', '[begin, isOwned, known, ending', '[begin, isOwned, ending'),
@@ -40,7 +41,7 @@ const MEMORY = [
   edit('only blocks that are owned count as used', 'recorder/shadow.mjs', 'if (this.blocks[at >>> BLOCK_BITS] !== 0) {',
     'if (this.isOwned(at >>> BLOCK_BITS)) {'),
   edit('a write is added one byte further', 'recorder/log.mjs', '[address + from]', '[address + from + 1]'),
-  edit('late writes go to an earlier turn', 'record/script.mjs',
+  edit('late writes go to what the host did earlier', 'record/script.mjs',
     'this.late = [];\n    answer.actions.push(this.late, ...actions);', 'answer.actions.push(...actions);'),
 ];
 

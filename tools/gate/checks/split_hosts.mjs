@@ -2,7 +2,7 @@
 import { exportItem, importItem, KIND, moduleBytes } from '../../use/wasm/assembler.mjs';
 import { I32, I64 } from '../../use/wasm/value_types.mjs';
 import { Random } from './random.mjs';
-import { IMPORTS } from './split_modules.mjs';
+import { IMPORTS, PLACES } from './split_modules.mjs';
 
 const FUEL = 40;
 const STEPS = 6;
@@ -16,7 +16,7 @@ const shown = value => {
 
 /**
  * A host of a random module. `hooks.tableChanged(table)` and `hooks.instanceMade()` are called as an interceptor would,
- * and `hooks.turn()` at some turns.
+ * and `hooks.flush()` now and then.
  */
 export class RandomHost {
   constructor(module, seed, hooks) {
@@ -68,10 +68,10 @@ export class RandomHost {
     return this.own.get(index);
   }
 
-  /** What the host does in a turn. */
+  /** What the host does while it has control. */
   act() {
     if (this.exports === null) return;
-    if (this.random.chance(10)) this.hooks.turn();
+    if (this.random.chance(10)) this.hooks.flush();
     for (let count = this.random.below(4); count > 0; count--) this.action();
   }
 
@@ -89,8 +89,9 @@ export class RandomHost {
   writeBytes() {
     const { random } = this;
     const bytes = new Uint8Array(this.exports.memory.buffer);
-    const begin = random.below(random.chance(40) ? 60 : 1100);
-    for (let count = random.below(30); count >= 0; count--) bytes[begin + count] = random.bits();
+    const begin = random.pick(PLACES) + random.below(random.chance(60) ? 60 : 900);
+    const isZero = random.chance(30);
+    for (let count = random.below(30); count >= 0; count--) bytes[begin + count] = isZero ? 0 : random.bits();
   }
 
   setGlobal() {

@@ -7,6 +7,9 @@ import { exportItem, importItem, moduleBytes, KIND, TypeList } from '../../use/w
 import { constant, flat, s32, u32, vector } from '../../use/wasm/encoding.mjs';
 import { F32, F64, FUNCREF, I32, I64 } from '../../use/wasm/value_types.mjs';
 
+/** Where bytes are read and written most: within blocks that the recorder knows as a whole, and over their ends. */
+export const PLACES = [0, 0, 1000, 1024, 2040, 4096];
+
 const TYPES = [I32, I32, I32, I64, F32, F64];
 const END = 0x0b;
 export const FIRST_FUEL = 60;
@@ -63,8 +66,8 @@ class Body {
 
   address(depth) {
     const { random } = this;
-    const mask = random.chance(50) ? 0x1f : random.chance(97) ? 0x3ff : 0x1ffff;
-    return [this.value(I32, depth - 2), 0x41, s32(mask), 0x71];
+    if (random.chance(60)) return [this.value(I32, depth - 2), 0x41, 0x1f, 0x71, 0x41, s32(random.pick(PLACES)), 0x6a];
+    return [this.value(I32, depth - 2), 0x41, s32(random.chance(97) ? 0x3ff : 0x1ffff), 0x71];
   }
 
   global(type) {
@@ -170,7 +173,7 @@ class Body {
   /** A copy or a fill among cells, one of which is read then. */
   rangeOfCells(isCopy, value) {
     const { random } = this;
-    const cell = () => [0x41, s32(4 * random.below(15))];
+    const cell = () => [0x41, s32(random.pick(PLACES) + 4 * random.below(15))];
     const [to, count] = [cell(), [0x41, s32(4 + random.below(20))]];
     const done = isCopy ? [to, cell(), count, 0xfc, 10, 0, 0] : [to, value(I32), count, 0xfc, 11, 0];
     const place = this.local(I32);
@@ -180,7 +183,7 @@ class Body {
   /** A cell is read, changed and read again. */
   cell(value) {
     const { random } = this;
-    const cell = [0x41, s32(8 * random.below(8))];
+    const cell = [0x41, s32(random.pick(PLACES) + 8 * random.below(8))];
     const place = this.local(I32);
     const into = place === null ? 0x1a : [0x21, u32(place)];
     const [load, store] = [random.pick([0x28, 0x2d, 0x2e]), random.pick([0x36, 0x3a, 0x3b])];
@@ -325,7 +328,8 @@ export class RandomModule {
   }
 
   dataItems() {
-    const active = this.data.map(bytes => [0, 0x41, s32(this.random.below(1000)), END, vector(bytes)]);
+    const place = () => this.random.pick(PLACES) + this.random.below(this.random.chance(60) ? 40 : 900);
+    const active = this.data.map(bytes => [0, 0x41, s32(place()), END, vector(bytes)]);
     return this.isPlain ? active : [...active, [1, vector([1, 2, 3, 4, 5, 6, 7, 8])]];
   }
 }

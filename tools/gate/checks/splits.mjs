@@ -25,7 +25,7 @@ import { RandomModule } from './split_modules.mjs';
 const TURNS = '2000000';
 const MOST_OUTPUT = 1e9;
 const WORDS = ['host-call', 'host-return', 'import-call', 'import-return'];
-const NO_HOOKS = { tableChanged: () => {}, instanceMade: () => {}, turn: () => {} };
+const NO_HOOKS = { tableChanged: () => {}, instanceMade: () => {}, flush: () => {} };
 
 /** Thrown where a module fails; the message says how. */
 class Failure extends Error {}
@@ -129,7 +129,7 @@ class Test {
   splitRun(recorder, module) {
     const parts = recorder.parts().map(bytes => new WebAssembly.Module(bytes));
     const hooks = { tableChanged: table => recorder.tableChanged(table), instanceMade: () => recorder.instanceMade(),
-      turn: () => recorder.flush() };
+      flush: () => recorder.flush() };
     const most = { memoryMaximum: module.importsMemory ? 4 : undefined, tableMaximum: module.importsTable
       ? 16 : undefined };
     return new RandomHost(module, this.seed, hooks).run(imports => {

@@ -1,6 +1,6 @@
 /**
  * The table. K has one of its own, with K's functions where the program's has trampolines. An entry is looked at when K
- * calls by it: if the host has changed it, the change is added to the host's last turn, since K has not called by it
+ * calls by it: if the host has changed it, the change is added to what the host did last, since K has not called by it
  * before.
  */
 import { OTHER_TYPE, bridgeBytes, isBridged, takingBytes } from '../split/bridges.mjs';
@@ -54,7 +54,7 @@ export class Entries {
     this.epochs = new Int32Array(this.watch.memory.buffer);
     this.epochs[0] = 1;
     this.size = size;
-    /** Whether the table may change unseen, so that it is looked at anew after each turn of the host. */
+    /** Whether the table may change unseen, so that it is looked at anew after each crossing to K. */
     this.isUnsteady = this.plan.restChangesTable;
     /** @type {Function | null} */
     this.other = null;

@@ -211,7 +211,7 @@ export class Recorder {
     if (this.entries?.isUnsteady) this.entries.changed();
     if (this.isOver) return;
     if (this.memory !== null) {
-      for (let turns = this.shadow?.enter() ?? 0; turns > 0; turns--) this.kept[KEPT_NAMES.turned]();
+      for (let visits = this.shadow?.enter() ?? 0; visits > 0; visits--) this.kept[KEPT_NAMES.visited]();
     }
     if (this.plan.unsteadyGlobals.length > 0 && this.watch.changed() !== 0) this.changedGlobals();
   }

@@ -1,10 +1,10 @@
 /**
  * The shadow of the memory: what K knows of it. A load of K that finds other bytes has found what the host wrote. The
- * bytes are added as a write to the host's last turn, since K has not looked at them before.
+ * bytes are added to what the host did last, since K has not looked at them before.
  *
- * A block that K uses often in a turn is owned for the turn: it is compared as a whole, and K's loads there are not
- * watched any more. Where K's stores are not watched either, the shadow of the block is brought up to date when control
- * leaves K.
+ * A visit is the time from a crossing to K to the next one out of it. A block that K uses often in a visit is owned: it
+ * is compared as a whole, and K's loads there are not watched any more. Where K's stores are not watched either, the
+ * shadow of the block is brought up to date when control leaves K.
  */
 import { BLOCK, BLOCK_BITS } from '../split/operations.mjs';
 import { MOST_PAGES } from '../split/plan.mjs';
@@ -12,8 +12,8 @@ import { OWNED, OWNED_FOR_STORES, SHADOW_PAGES, STATE, STATE_BITS } from '../spl
 import { native } from './native.mjs';
 
 const PAGE = 65536;
-/** Turns are counted up to here, and then anew: a word has no more bits for them. */
-const MOST_TURNS = (1 << 32 - STATE_BITS) - 1;
+/** Visits are counted up to here, and then anew: a word has no more bits for them. */
+const MOST_VISITS = (1 << 32 - STATE_BITS) - 1;
 /** What is found goes on over the blocks behind, as long as they have something, up to so many bytes. */
 const REACH = 4096;
 /** Blocks that K comes to one after another are owned in growing numbers, up to so many. */
@@ -29,7 +29,7 @@ export class Shadow {
     this.memory = memory;
     this.shadowMemory = shadow;
     this.found = found;
-    this.turn = 1;
+    this.visit = 1;
     /**
      * The blocks whose stores are not watched.
      * @type {number[]}
@@ -74,30 +74,30 @@ export class Shadow {
     this.stored.length = 0;
   }
 
-  /** Control comes to K: it owns no block. Gives by how many turns K is to move on. */
+  /** Control comes to K: it owns no block. Gives by how many visits K is to move on. */
   enter() {
     this.next = -1;
-    if (this.turn < MOST_TURNS) {
-      this.turn++;
+    if (this.visit < MOST_VISITS) {
+      this.visit++;
       return 1;
     }
     this.countAnew();
     return 2;
   }
 
-  /** No block is owned, and those that were used stay used: turn 0 never comes. */
+  /** No block is owned, and those that were used stay used: visit 0 never comes. */
   countAnew() {
-    this.turn = 1;
+    this.visit = 1;
     for (let block = 0; block < this.blocks.length; block++) if (this.blocks[block] !== 0) this.blocks[block] = 1;
   }
 
   /**
-   * Whether K owns a block in this turn.
+   * Whether K owns a block in this visit.
    * @param {number} block
    */
   isOwned(block) {
     const word = this.blocks[block];
-    return word >>> STATE_BITS === this.turn && (word & STATE) >= OWNED;
+    return word >>> STATE_BITS === this.visit && (word & STATE) >= OWNED;
   }
 
   /**
@@ -105,7 +105,7 @@ export class Shadow {
    * @param {number} state
    */
   mark(block, state) {
-    this.blocks[block] = this.turn << STATE_BITS | state;
+    this.blocks[block] = this.visit << STATE_BITS | state;
   }
 
   /**

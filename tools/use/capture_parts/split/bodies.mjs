@@ -34,7 +34,7 @@ import { BLOCK, FLOAT_TYPES, HASH_FACTOR, LOADED, LOADED_BYTES, OP, STORED, STOR
  * @property {number} fills
  * @property {number} grown
  * @property {number} entry
- * @property {number} turn the global of the present turn
+ * @property {number} visit the global of the present visit
  * @property {() => number} site a global for one more access
  * @property {number | null} hash the global with a number of all that is loaded, for tests
  * @property {number} entered the global that says whether this function was entered
@@ -184,7 +184,7 @@ class WatchedSpelling extends Spelling {
 
   /**
    * Code that calls a watch where an access of so many bytes is not within the block that K owned when the site's
-   * global was set. The global has the block's address, and the turn above it. `args` are those before the turn.
+   * global was set. The global has the block's address, and the visit above it. `args` are those before the visit.
    * @param {number} offset
    * @param {number} bytes
    * @param {(address: Part) => Part} args
@@ -194,9 +194,9 @@ class WatchedSpelling extends Spelling {
   watched(offset, bytes, args, watch) {
     const address = [get(this.address), offset === 0 ? [] : [OP.i32Const, s32(offset), 0x6a]];
     const site = u32(this.watch.site());
-    const turn = [OP.globalGet, u32(this.watch.turn)];
-    const isOutside = [address, 0xad, turn, 0x84, OP.globalGet, site, 0x7d, OP.i64Const, s32(BLOCK - bytes), 0x56];
-    return [isOutside, OP.if, 0x40, args(address), turn, call(watch), OP.globalSet, site, OP.end];
+    const visit = [OP.globalGet, u32(this.watch.visit)];
+    const isOutside = [address, 0xad, visit, 0x84, OP.globalGet, site, 0x7d, OP.i64Const, s32(BLOCK - bytes), 0x56];
+    return [isOutside, OP.if, 0x40, args(address), visit, call(watch), OP.globalSet, site, OP.end];
   }
 
   /**

@@ -23,14 +23,14 @@ export const LOADED_BYTES = [4, 8, 4, 8, 1, 1, 2, 2, 1, 1, 2, 2, 4, 4];
 export const STORED_BYTES = [4, 8, 4, 8, 1, 2, 1, 2, 4];
 
 /**
- * K owns whole blocks of the memory, of so many bytes, for a turn: their bytes are those that K knows, so that its
+ * K owns whole blocks of the memory, of so many bytes, for a visit: their bytes are those that K knows, so that its
  * accesses need no watch.
  */
 export const BLOCK_BITS = 10;
 export const BLOCK = 1 << BLOCK_BITS;
 
-/** What the turn begins with, and moves on by: it is above the addresses. */
-export const FIRST_TURN = 1n << 32n;
+/** What the visit begins with, and moves on by: it is above the addresses. */
+export const FIRST_VISIT = 1n << 32n;
 
 /** Of a number of all that is loaded, in order, for tests. */
 export const HASH_FACTOR = 0x100000001b3n;

@@ -3,7 +3,7 @@ import { KIND, TypeList, exportItem, importItem, limits, moduleBytes } from '../
 import { constant, u32 } from '../../wasm/encoding.mjs';
 import { FUNCREF, I32, I64 } from '../../wasm/value_types.mjs';
 import { bodyBytes } from './bodies.mjs';
-import { FIRST_TURN, LOADED, OP, STORED } from './operations.mjs';
+import { FIRST_VISIT, LOADED, OP, STORED } from './operations.mjs';
 import { calleeTypes } from './plan.mjs';
 
 /** @typedef {import('./plan.mjs').Plan} Plan */
@@ -29,7 +29,7 @@ const MOST_SITES = 100000;
 
 /** The names by which K exports what the recorder needs. */
 export const KEPT_NAMES = {
-  table: 'table', probe: 'probe', turned: 'turned', hash: 'hash',
+  table: 'table', probe: 'probe', visited: 'visited', hash: 'hash',
   /** @param {number} slot */ function: slot => `function ${slot}`,
   /** @param {number} slot */ entered: slot => `entered ${slot}`,
   /** @param {number} slot */ floats: slot => `floats ${slot}`,
@@ -37,7 +37,7 @@ export const KEPT_NAMES = {
 };
 
 /**
- * The numbers of K's globals: those of M, then one for each function, one for each function with floats, the turn, a
+ * The numbers of K's globals: those of M, then one for each function, one for each function with floats, the visit, a
  * number of what was loaded, and the sites of accesses.
  */
 class Globals {
@@ -48,8 +48,8 @@ class Globals {
     const withFloats = p.kept.filter(index => p.needs(index).floats.size > 0);
     const firstCount = this.firstEntered + p.kept.length;
     this.counts = new Map(withFloats.map((index, place) => [index, firstCount + place]));
-    this.turn = firstCount + withFloats.length;
-    this.hash = this.turn + 1;
+    this.visit = firstCount + withFloats.length;
+    this.hash = this.visit + 1;
     this.sites = 0;
   }
 
@@ -61,9 +61,9 @@ class Globals {
   /** The globals that K defines. */
   items() {
     const zero = [I32, 1, OP.i32Const, 0, OP.end];
-    const first = [I64, 1, constant(I64, FIRST_TURN), OP.end];
+    const first = [I64, 1, constant(I64, FIRST_VISIT), OP.end];
     const none = [I64, 1, OP.i64Const, 0, OP.end];
-    return [...Array.from({ length: this.turn - this.firstEntered }, () => zero), first, none,
+    return [...Array.from({ length: this.visit - this.firstEntered }, () => zero), first, none,
       ...Array.from({ length: Math.min(this.sites, MOST_SITES) }, () => none)];
   }
 }
@@ -94,7 +94,7 @@ function imports(p, types) {
  */
 function exports(p, globals, first) {
   const list = [exportItem(KEPT_NAMES.probe, KIND.function, first + p.kept.length),
-    exportItem(KEPT_NAMES.turned, KIND.function, first + p.kept.length + 1),
+    exportItem(KEPT_NAMES.visited, KIND.function, first + p.kept.length + 1),
     exportItem(KEPT_NAMES.hash, KIND.global, globals.hash)];
   p.kept.forEach((index, slot) => {
     list.push(exportItem(KEPT_NAMES.function(slot), KIND.function, first + slot));
@@ -122,7 +122,7 @@ function exports(p, globals, first) {
 function bodies(p, globals, types, first, isHashing) {
   const at = (/** @type {string} */ text) => first - HELPERS.length + HELPERS.findIndex(([other]) => other === text);
   const watch = { load: LOAD_NAMES.map(at), store: STORE_NAMES.map(at), copies: at('copies'), fills: at('fills'),
-    grown: at('grown'), entry: at('entry'), turn: globals.turn, site: () => globals.site(),
+    grown: at('grown'), entry: at('entry'), visit: globals.visit, site: () => globals.site(),
     hash: isHashing ? globals.hash : null };
   const floats = new Map(p.floats.map((op, place) => [op, p.callees.length + place]));
   const callees = new Map(p.callees.map((index, place) => [index, place]));
@@ -136,7 +136,7 @@ function bodies(p, globals, types, first, isHashing) {
   return [...p.kept.map((index, slot) => bodyBytes(p.m, index, places,
     { ...watch, entered: globals.firstEntered + slot, floats: globals.counts.get(index) ?? null })),
   [0, OP.call, u32(at('probe')), OP.end],
-  [0, OP.globalGet, u32(globals.turn), constant(I64, FIRST_TURN), 0x7c, OP.globalSet, u32(globals.turn), OP.end]];
+  [0, OP.globalGet, u32(globals.visit), constant(I64, FIRST_VISIT), 0x7c, OP.globalSet, u32(globals.visit), OP.end]];
 }
 
 /**

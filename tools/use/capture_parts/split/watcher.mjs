@@ -74,15 +74,15 @@ class Functions {
   }
 }
 
-/* The blocks of the shadow: each has a word with the turn, above the bits that say what is known of the block in it. */
+/* The blocks of the shadow: each has a word with the visit, above the bits that say what is known of the block. */
 
 /** The shadow lies behind the words of all blocks that a memory of r3's may have. */
 export const SHADOW_PAGES = MOST_PAGES * 4 >> BLOCK_BITS;
 const SHADOW = SHADOW_PAGES * 65536;
-/** Below the turn a word has so many bits. */
+/** Below the visit a word has so many bits. */
 export const STATE_BITS = 8;
 export const STATE = (1 << STATE_BITS) - 1;
-/** After so many accesses in a turn a block is owned: what it has is compared, and loads are not watched. */
+/** After so many accesses in a visit a block is owned: what it has is compared, and loads are not watched. */
 export const ACCESSES = 24;
 export const OWNED = STATE - 1;
 /** Stores are not watched either: what the block has is known anew when control goes to the host. */
@@ -92,27 +92,27 @@ const isLess = 0x49;
 const [SHIFT_LEFT, SHIFT_RIGHT, AND, OR_64, IF, ELSE, RETURN] = [0x74, 0x76, 0x71, 0x84, 0x04, 0x05, 0x0f];
 
 /**
- * What a site is set to: the turn and the block's address.
+ * What a site is set to: the visit and the block's address.
  * @param {number} address
- * @param {number} turn
+ * @param {number} visit
  * @returns {Part[]}
  */
-const siteOf = (address, turn) => [get(turn), get(address), i32(-BLOCK), AND, 0xad, OR_64];
+const siteOf = (address, visit) => [get(visit), get(address), i32(-BLOCK), AND, 0xad, OR_64];
 
 /**
- * The beginning of a function for an access, whose further locals are the block's word, its place, and the turn in it.
+ * The beginning of a function for an access, whose further locals are the block's word, its place, and the visit in it.
  * Accesses over the end of a block go another way.
- * @param {{ address: number, turn: number, bytes: number, over: Part, off: number }} access
+ * @param {{ address: number, visit: number, bytes: number, over: Part, off: number }} access
  * @returns {Part[]}
  */
-function beginning({ address, turn, bytes, over, off }) {
+function beginning({ address, visit, bytes, over, off }) {
   const [word, place, now] = [3, 4, 5];
   return [
-    [OP.globalGet, u32(off), IF, VOID_BLOCK, siteOf(address, turn), RETURN, OP.end],
+    [OP.globalGet, u32(off), IF, VOID_BLOCK, siteOf(address, visit), RETURN, OP.end],
     bytes === 1 ? [] : [get(address), i32(BLOCK - 1), AND, i32(BLOCK - bytes), 0x4b, IF, VOID_BLOCK, over, OP.i64Const,
       0, RETURN, OP.end],
     [get(address), i32(BLOCK_BITS), SHIFT_RIGHT, i32(2), SHIFT_LEFT, OP.localTee, place, LOAD[I32], 2, 0, set(word)],
-    [get(turn), OP.i64Const, s32(32), 0x88, 0xa7, i32(STATE_BITS), SHIFT_LEFT, set(now)],
+    [get(visit), OP.i64Const, s32(32), 0x88, 0xa7, i32(STATE_BITS), SHIFT_LEFT, set(now)],
     [get(word), i32(~STATE), AND, get(now), 0x47, IF, VOID_BLOCK, get(now), set(word), OP.end],
   ];
 }
@@ -141,7 +141,7 @@ function addAccesses(functions, js, off, accesses) {
     const isOwned = [get(3), i32(STATE), AND, i32(OWNED), 0x4f, IF, VOID_BLOCK, siteOf(1, 2), RETURN, OP.end];
     const compared = [get(0), asInteger(type), noted, notEqual(type), IF, VOID_BLOCK, get(1), i32(bytes), call(js.miss),
       OP.end];
-    const begin = beginning({ address: 1, turn: 2, bytes, over: [get(1), i32(bytes), call(js.over)], off });
+    const begin = beginning({ address: 1, visit: 2, bytes, over: [get(1), i32(bytes), call(js.over)], off });
     functions.add(text, [type, I32, I64], [I64],
       [begin, isOwned, compared, ending(accesses, [get(1), call(js.own)], siteOf(1, 2))], locals);
   });
@@ -150,7 +150,7 @@ function addAccesses(functions, js, off, accesses) {
     const known = [get(0), get(1), OP.firstStore + place, 0, u32(SHADOW)];
     const isOwned = [get(3), i32(STATE), AND, i32(OWNED_FOR_STORES), 0x46, IF, VOID_BLOCK, siteOf(0, 2), RETURN,
       OP.end];
-    const begin = beginning({ address: 0, turn: 2, bytes, over: known, off });
+    const begin = beginning({ address: 0, visit: 2, bytes, over: known, off });
     functions.add(text, [I32, type, I64], [I64],
       [begin, isOwned, known, ending(accesses, [get(0), call(js.ownForStores)], siteOf(0, 2))], locals);
   });
@@ -181,7 +181,7 @@ function addGlobals(functions, p) {
  * The shadow of memory and globals. `off` is set where nothing is watched any more.
  * @param {Plan} p
  * @param {number} pages
- * @param {number} accesses after how many in a turn a block is owned
+ * @param {number} accesses after how many in a visit a block is owned
  */
 export function shadowBytes(p, pages, accesses) {
   const functions = new Functions();
