@@ -1,7 +1,7 @@
 /**
  * Takes the place of WebAssembly's interface for JavaScript, so that instances are recorded while the program runs as
- * it is. Works in Node.js, in pages and in workers. Each of its functions is a proxy of the engine's own: its name,
- * length and text are the same, and where nothing can be recorded the engine's own function does the work.
+ * it is. Works in Node.js, in pages and in workers. Each of its functions is a proxy of the engine's own: its name
+ * and length are the same, and where nothing can be recorded the engine's own function does the work.
  */
 
 const { Module, Instance, Memory, Table, Global } = WebAssembly;
