@@ -16,6 +16,9 @@ const encoder = new TextEncoder();
 export const NOT_CHOSEN = 'it is not chosen';
 const NO_BYTES = 'the bytes of its module are not known here: another thread has made it';
 
+/** Bytes of a record, beside its module, after which it ends: no script of so many crossings is short enough for r3. */
+const MOST_BYTES = 1 << 28;
+
 /** Exports that are noted of an instance. */
 const MOST_EXPORTS = 12;
 
@@ -89,7 +92,15 @@ export class Session {
     try {
       const until = this.settings.until ?? undefined;
       const plan = planOf(bytes, this.choice(name));
-      const recorder = new Recorder(plan, { sink: chunk => this.write(sink, chunk), until });
+      let room = bytes.length + MOST_BYTES;
+      const recorder = new Recorder(plan, {
+        sink: chunk => {
+          this.write(sink, chunk);
+          room -= chunk.length;
+          if (room < 0) recorder.stop(`the record has ${MOST_BYTES} bytes`);
+        },
+        until,
+      });
       this.recorded.push({ recorder, sink });
       noted({ isRecorded: true });
       return this.recording(recorder, noted);
