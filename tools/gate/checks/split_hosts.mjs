@@ -2,11 +2,12 @@
 import { exportItem, importItem, KIND, moduleBytes } from '../../use/wasm/assembler.mjs';
 import { I32, I64 } from '../../use/wasm/value_types.mjs';
 import { Random } from './random.mjs';
-import { IMPORTS, PLACES } from './split_modules.mjs';
+import { IMPORTS } from './split_modules.mjs';
 
 const FUEL = 40;
 const STEPS = 6;
 const DEEPEST = 3;
+const KEPT_BYTES = 72;
 
 const shown = value => {
   if (Array.isArray(value)) return value.map(shown).join(' ');
@@ -27,6 +28,8 @@ export class RandomHost {
     this.exports = null;
     this.depth = 0;
     this.throws = this.random.chance(30) ? 40 : 400;
+    /** Bytes of the memory as they were, by their addresses. */
+    this.kept = new Map();
     /** Functions of the host's own, by the imports whose types they have. */
     this.own = new Map();
     this.memory = module.importsMemory ? new WebAssembly.Memory({ initial: 1, maximum: 4 }) : null;
@@ -77,7 +80,7 @@ export class RandomHost {
 
   action() {
     const kind = this.random.below(10);
-    if (kind <= 2) this.writeBytes();
+    if (kind <= 2 || (this.module.isOfCells && kind <= 6)) this.writeBytes();
     else if (kind === 3) this.setGlobal();
     else if (kind === 4) this.growMemory();
     else if (kind <= 6) this.setEntries();
@@ -89,9 +92,19 @@ export class RandomHost {
   writeBytes() {
     const { random } = this;
     const bytes = new Uint8Array(this.exports.memory.buffer);
-    const begin = random.pick(PLACES) + random.below(random.chance(60) ? 60 : 900);
+    if (random.chance(40)) return this.writeBack(bytes);
+    const begin = random.pick(this.module.places) + random.below(random.chance(60) ? 60 : 900);
     const isZero = random.chance(30);
     for (let count = random.below(30); count >= 0; count--) bytes[begin + count] = isZero ? 0 : random.bits();
+  }
+
+  /** Writes bytes back that were at a place before, or keeps what is there for a later time. */
+  writeBack(bytes) {
+    const begin = this.random.pick(this.module.places);
+    const kept = this.kept.get(begin);
+    if (kept === undefined) this.kept.set(begin, bytes.slice(begin, begin + KEPT_BYTES));
+    else bytes.set(kept, begin);
+    if (this.random.chance(30)) this.kept.delete(begin);
   }
 
   setGlobal() {

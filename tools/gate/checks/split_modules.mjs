@@ -8,7 +8,10 @@ import { constant, flat, s32, u32, vector } from '../../use/wasm/encoding.mjs';
 import { F32, F64, FUNCREF, I32, I64 } from '../../use/wasm/value_types.mjs';
 
 /** Where bytes are read and written most: within blocks that the recorder knows as a whole, and over their ends. */
-export const PLACES = [0, 0, 1000, 1024, 2040, 4096];
+const PLACES = [0, 0, 1000, 1024, 2040, 4096];
+/** The same of modules that mostly read and write cells, and of their hosts. */
+const NEAR_PLACES = [0, 1000, 1024];
+const CELLS = 4;
 
 const TYPES = [I32, I32, I32, I64, F32, F64];
 const END = 0x0b;
@@ -66,7 +69,7 @@ class Body {
 
   address(depth) {
     const { random } = this;
-    if (random.chance(60)) return [this.value(I32, depth - 2), 0x41, 0x1f, 0x71, 0x41, s32(random.pick(PLACES)), 0x6a];
+    if (random.chance(60)) return [this.value(I32, depth - 2), 0x41, 0x1f, 0x71, 0x41, s32(random.pick(this.module.places)), 0x6a];
     return [this.value(I32, depth - 2), 0x41, s32(random.chance(97) ? 0x3ff : 0x1ffff), 0x71];
   }
 
@@ -127,6 +130,7 @@ class Body {
     const { random, module } = this;
     if (depth <= 0) return [];
     const value = type => this.value(type, depth - 1);
+    if (module.isOfCells && random.chance(50)) return this.cell(value);
     const kind = random.below(module.isPlain ? 12 : 15);
     if (kind <= 1) return this.store(depth);
     if (kind === 2) return this.setGlobal(value);
@@ -173,7 +177,7 @@ class Body {
   /** A copy or a fill among cells, one of which is read then. */
   rangeOfCells(isCopy, value) {
     const { random } = this;
-    const cell = () => [0x41, s32(random.pick(PLACES) + 4 * random.below(15))];
+    const cell = () => [0x41, s32(random.pick(this.module.places) + 4 * random.below(15))];
     const [to, count] = [cell(), [0x41, s32(4 + random.below(20))]];
     const done = isCopy ? [to, cell(), count, 0xfc, 10, 0, 0] : [to, value(I32), count, 0xfc, 11, 0];
     const place = this.local(I32);
@@ -183,7 +187,8 @@ class Body {
   /** A cell is read, changed and read again. */
   cell(value) {
     const { random } = this;
-    const cell = [0x41, s32(random.pick(PLACES) + 8 * random.below(8))];
+    const { places, isOfCells } = this.module;
+    const cell = [0x41, s32(random.pick(places) + 8 * random.below(isOfCells ? CELLS : 8))];
     const place = this.local(I32);
     const into = place === null ? 0x1a : [0x21, u32(place)];
     const [load, store] = [random.pick([0x28, 0x2d, 0x2e]), random.pick([0x36, 0x3a, 0x3b])];
@@ -230,6 +235,9 @@ export class RandomModule {
   constructor(random, isPlain) {
     this.random = random;
     this.isPlain = isPlain;
+    /** Whether it mostly reads and writes a few cells, as its host does: so what is owned and found late is seen. */
+    this.isOfCells = random.chance(40);
+    this.places = this.isOfCells ? NEAR_PLACES : PLACES;
     this.types = new TypeList();
     const several = { params: [I32], results: isPlain ? [I32] : [I32, F64] };
     this.signatures = [...MAIN_IMPORTS, several];
@@ -328,7 +336,7 @@ export class RandomModule {
   }
 
   dataItems() {
-    const place = () => this.random.pick(PLACES) + this.random.below(this.random.chance(60) ? 40 : 900);
+    const place = () => this.random.pick(this.places) + this.random.below(this.random.chance(60) ? 40 : 900);
     const active = this.data.map(bytes => [0, 0x41, s32(place()), END, vector(bytes)]);
     return this.isPlain ? active : [...active, [1, vector([1, 2, 3, 4, 5, 6, 7, 8])]];
   }
