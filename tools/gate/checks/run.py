@@ -24,10 +24,14 @@ import module_answers
 import pairs
 import prefixes
 import profiles
+import program_choices
+import program_refusals
+import programs
 import projections
 import replay_bytes
 import rests
 import run_tables
+import splits
 import statuses
 import wrapper
 from group import Group
@@ -37,6 +41,9 @@ CHAINS = [
     [("examples", examples.checks), ("examples in other engines", engines.checks)],
     [("captured hosts", captures.checks)],
     [("profiles", profiles.checks)],
+    [("random splits", splits.checks)],
+    [("programs of Node.js", programs.checks), ("options of captures", program_choices.checks)],
+    [("programs of pages", programs.pages), ("captures that are refused", program_refusals.checks)],
     [("files that are cut", prefixes.checks)],
     [("two modules", pairs.checks)],
     [("a later call", rests.checks)],

@@ -1,4 +1,7 @@
-/** The command `capture`: reads its words, captures the run, and prints the script. */
+/**
+ * The command `capture`: reads its words, captures the run, and prints the script. The form with `-o` is that of
+ * `../program_capture`.
+ */
 import fs from 'node:fs';
 import path from 'node:path';
 import { fileURLToPath, pathToFileURL } from 'node:url';
@@ -6,6 +9,7 @@ import { captured } from './capture.mjs';
 import { Progress } from './progress.mjs';
 import { Refusal, refuse } from './refusal.mjs';
 import { WordsFault, readWords, usage } from './words.mjs';
+import { isProgramForm, usage as programUsage } from '../program_capture/words.mjs';
 
 /** Standard output of the command, which the script alone is printed to. */
 const OUTPUT = 3;
@@ -77,18 +81,35 @@ async function capture(words) {
   if (length > MOST_BYTES) report(`the script has ${length} bytes, and r3 reads at most ${MOST_BYTES}`);
 }
 
+const usages = `${programUsage}\n${usage}`;
+
+/** An error of the host in a timer or a promise, which no call of ours sees, is a line of ours too. */
+function reportUncaught(error) {
+  report(`the host threw outside of the module: ${error?.stack?.split('\n', 2).join('') ?? String(error)}`);
+  exit(1);
+}
+
+async function answer(given) {
+  if (isProgramForm(given)) {
+    const { captureProgram } = await import('../program_capture/command.mjs');
+    return captureProgram(given, report);
+  }
+  const words = readWords(given);
+  if (words.help) {
+    writeAll(Buffer.from(usages));
+  } else {
+    process.on('uncaughtException', reportUncaught);
+    await capture(words);
+  }
+  return 0;
+}
+
 async function main() {
   try {
-    const words = readWords(process.argv.slice(2));
-    if (words.help) {
-      writeAll(Buffer.from(usage));
-    } else {
-      await capture(words);
-    }
-    return 0;
+    return await answer(process.argv.slice(2));
   } catch (error) {
     if (error instanceof WordsFault) {
-      fs.writeSync(2, usage);
+      fs.writeSync(2, usages);
       return 2;
     }
     report(error instanceof Refusal ? error.message : error.stack);

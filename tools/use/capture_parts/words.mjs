@@ -2,7 +2,7 @@
 export const usage = `usage: tools/capture [--relative] [--decls FILE] MODULE HOST [WORDS..] > script.json
        tools/capture [--relative] --wasi [--dir FOLDER[::NAME]] [--env NAME=VALUE] MODULE [WORDS..] > script.json
 
-Runs the module once with a real host, and prints the script that does what the host did.
+Runs a module that r3 takes as it is once with a real host, and prints the script that does what the host did.
 
 HOST        a file of JavaScript that exports host(context), which gives { imports, main(exports) };
             context has the module, its file, the words, the instance once it is there, and hostFunction

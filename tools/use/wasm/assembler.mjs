@@ -86,6 +86,7 @@ export class TypeList {
  * @property {Part[]} [elements]
  * @property {Part[]} [bodies]
  * @property {Part[]} [data]
+ * @property {boolean} [countsData] whether the module has the number of its data segments before its bodies
  * @property {Part[]} [custom]
  */
 
@@ -93,15 +94,20 @@ export class TypeList {
  * The bytes of a module.
  * @param {ModuleParts} parts
  */
-export function moduleBytes({ types = [], imports = [], functions = [], tables = [], memories = [], globals = [], exports = [],
-  start = null, elements = [], bodies = [], data = [], custom = [] }) {
+export function moduleBytes({ types = [], imports = [], functions = [], tables = [], memories = [], globals = [],
+  exports = [],
+  start = null, elements = [], bodies = [], data = [], countsData = false, custom = [] }) {
   /** @type {[number, Part[]][]} */
-  const before = [[SECTION.type, types.map(functionType)], [SECTION.import, imports], [SECTION.function, functions.map(u32)],
+  const before = [[SECTION.type, types.map(functionType)], [SECTION.import, imports],
+    [SECTION.function, functions.map(u32)],
     [SECTION.table, tables], [SECTION.memory, memories], [SECTION.global, globals], [SECTION.export, exports]];
   /** @type {[number, Part[]][]} */
-  const after = [[SECTION.element, elements], [SECTION.code, bodies.map(sized)], [SECTION.data, data]];
+  const after = [[SECTION.code, bodies.map(sized)], [SECTION.data, data]];
   /** @param {[number, Part[]][]} lists */
-  const sections = lists => lists.filter(([, items]) => items.length > 0).map(([id, items]) => section(id, vector(items)));
+  const sections = lists =>
+    lists.filter(([, items]) => items.length > 0).map(([id, items]) => section(id, vector(items)));
   const starts = start === null ? [] : section(SECTION.start, u32(start));
-  return flat([MAGIC, sections(before), starts, sections(after), custom.map(part => section(SECTION.custom, part))]);
+  const count = countsData ? section(SECTION.dataCount, u32(data.length)) : [];
+  return flat([MAGIC, sections(before), starts, sections([[SECTION.element, elements]]), count, sections(after),
+    custom.map(part => section(SECTION.custom, part))]);
 }

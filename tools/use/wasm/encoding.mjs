@@ -1,4 +1,7 @@
-/** Bytes of the binary format: numbers, names, vectors and sections. Parts are nested lists, which `flat` makes into bytes. */
+/**
+ * Bytes of the binary format: numbers, names, vectors and sections. Parts are nested lists, which `flat` makes into
+ * bytes.
+ */
 import { F32, F64, I32, I64 } from './value_types.mjs';
 
 /**

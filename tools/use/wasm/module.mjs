@@ -1,4 +1,7 @@
-/** The sections of a module and what is in them, as far as tools need it. Bodies are ranges of bytes, and read on their own. */
+/**
+ * The sections of a module and what is in them, as far as tools need it. Bodies are ranges of bytes, and read on their
+ * own.
+ */
 import { KIND, SECTION } from './assembler.mjs';
 import { readInstruction } from './instructions.mjs';
 import { Reader, UnknownFormat } from './reader.mjs';
@@ -13,8 +16,8 @@ import { Reader, UnknownFormat } from './reader.mjs';
  * @typedef {{ bytes: Uint8Array, all: Instruction[], only: Instruction | null }} Constant a constant expression; `only`
  *   is its instruction where it has one besides `end`
  * @typedef {{ type: number, mutable: boolean, init?: Constant }} Global `init` is missing for an imported one
- * @typedef {{ module: string, name: string, kind: number, index: number, type?: number, item?: Table | Limits | Global }}
- *   Import `index` is its number among those of its kind; `type` that of its type, for functions and tags
+ * @typedef {{ module: string, name: string, kind: number, index: number, type?: number, item?: Table | Limits | Global
+ *   }} Import `index` is its number among those of its kind; `type` that of its type, for functions and tags
  * @typedef {{ name: string, kind: number, index: number }} Export
  * @typedef {{ table: number, offset: Constant | null, functions: (number | null)[], isDeclared: boolean }} Element
  *   `offset` is null for a segment that is not active, a function for an empty entry or one that is not a `ref.func`
@@ -46,13 +49,19 @@ import { Reader, UnknownFormat } from './reader.mjs';
  * @property {Map<number, string>} names the names of functions that the section `name` has
  */
 
-/** @param {Reader} reader @returns {Limits} */
+/**
+ * @param {Reader} reader
+ * @returns {Limits}
+ */
 function limits(reader) {
   const flags = reader.byte();
   const min = reader.u32();
   return { flags, min, max: flags & 1 ? reader.u32() : null };
 }
-/** @param {Reader} reader @returns {FunctionType} */
+/**
+ * @param {Reader} reader
+ * @returns {FunctionType}
+ */
 function functionType(reader) {
   const form = reader.byte();
   if (form !== 0x60) throw new UnknownFormat(`a type of the form 0x${form.toString(16)}`);
@@ -64,18 +73,31 @@ function valueType(reader) {
   if (byte === 0x63 || byte === 0x64) throw new UnknownFormat('a typed reference');
   return byte;
 }
-/** @param {Reader} reader @returns {Table} */
+/**
+ * @param {Reader} reader
+ * @returns {Table}
+ */
 const table = reader => ({ type: valueType(reader), ...limits(reader) });
-/** @param {Reader} reader @returns {Global} */
+/**
+ * @param {Reader} reader
+ * @returns {Global}
+ */
 const globalType = reader => ({ type: valueType(reader), mutable: reader.byte() === 1 });
-/** @param {Reader} reader @returns {Constant} */
+/**
+ * @param {Reader} reader
+ * @returns {Constant}
+ */
 function constantExpression(reader) {
   const begin = reader.at;
   const all = [];
   for (let item = readInstruction(reader); item.op !== 0x0b; item = readInstruction(reader)) all.push(item);
   return { bytes: reader.bytes.subarray(begin, reader.at), all, only: all.length === 1 ? all[0] : null };
 }
-/** @param {Reader} reader @param {number[]} counts how many imports of each kind there are so far @returns {Import} */
+/**
+ * @param {Reader} reader
+ * @param {number[]} counts how many imports of each kind there are so far
+ * @returns {Import}
+ */
 function importItem(reader, counts) {
   const [module, name, kind] = [reader.name(), reader.name(), reader.byte()];
   const index = counts[kind]++;
@@ -87,7 +109,10 @@ function importItem(reader, counts) {
   reader.byte();
   return { module, name, kind, index, type: reader.u32() };
 }
-/** @param {Reader} reader @returns {Element} */
+/**
+ * @param {Reader} reader
+ * @returns {Element}
+ */
 function element(reader) {
   const flags = reader.u32();
   const isActive = (flags & 1) === 0;
@@ -101,14 +126,20 @@ function element(reader) {
   const functions = reader.list(() => (flags & 4 ? expression() : reader.u32()));
   return { table: tableIndex, offset, functions, isDeclared: (flags & 3) === 3 };
 }
-/** @param {Reader} reader @returns {Data} */
+/**
+ * @param {Reader} reader
+ * @returns {Data}
+ */
 function dataSegment(reader) {
   const flags = reader.u32();
   const memory = flags === 2 ? reader.u32() : 0;
   const offset = flags === 1 ? null : constantExpression(reader);
   return { memory, offset, bytes: reader.take(reader.u32()) };
 }
-/** @param {Reader} reader @returns {[number, number]} */
+/**
+ * @param {Reader} reader
+ * @returns {[number, number]}
+ */
 function body(reader) {
   const size = reader.u32();
   reader.take(size);
@@ -162,7 +193,8 @@ function addImported(m) {
   /** @param {number} kind */
   const items = kind => m.imports.filter(item => item.kind === kind);
   const types = items(KIND.function).map(item => item.type ?? 0);
-  const [tables, memories, globals] = [KIND.table, KIND.memory, KIND.global].map(kind => items(kind).map(({ item }) => item));
+  const [tables, memories, globals] = [KIND.table, KIND.memory, KIND.global].map(kind =>
+    items(kind).map(({ item }) => item));
   m.functionTypes.unshift(...types);
   m.tables.unshift(.../** @type {Table[]} */ (tables));
   m.memories.unshift(.../** @type {Limits[]} */ (memories));
@@ -183,7 +215,8 @@ export function readModule(bytes) {
   const reader = new Reader(bytes, 8);
   /** @type {Module} */
   const m = { bytes, sections: [], types: [], imports: [], functionTypes: [], functions: [], importedFunctions: 0,
-    importedGlobals: 0, importedTables: 0, tables: [], memories: [], globals: [], exports: [], start: null, elements: [],
+    importedGlobals: 0, importedTables: 0, tables: [], memories: [], globals: [], exports: [], start: null,
+    elements: [],
     bodies: [], data: [], tags: 0, names: new Map() };
   while (!reader.isAtEnd) {
     const id = reader.byte();
@@ -220,8 +253,8 @@ export function* instructionsOf(m, index) {
 }
 
 /**
- * The names of all functions: that of the section `name`, else that of the first export, else `MODULE.NAME` of an import,
- * else `func N`.
+ * The names of all functions: that of the section `name`, else that of the first export, else `MODULE.NAME` of an
+ * import, else `func N`.
  * @param {Module} m
  * @returns {string[]}
  */

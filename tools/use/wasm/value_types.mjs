@@ -15,7 +15,8 @@ export const EXTERNREF = 0x6f;
 
 /** @type {Map<number, string>} */
 export const TYPE_NAMES = new Map([
-  [I32, 'i32'], [I64, 'i64'], [F32, 'f32'], [F64, 'f64'], [V128, 'v128'], [FUNCREF, 'funcref'], [EXTERNREF, 'externref'],
+  [I32, 'i32'], [I64, 'i64'], [F32, 'f32'], [F64, 'f64'], [V128, 'v128'], [FUNCREF, 'funcref'],
+  [EXTERNREF, 'externref'],
 ]);
 
 /**
