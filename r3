@@ -7,8 +7,10 @@ set -u
 # The tools outside the proof: the word, the file that it runs, the words that follow, and what it does. --help lists
 # them in this order.
 outside=(
+    'capture|tools/capture|-o FOLDER PROGRAM [WORD..]|captures a run of a program as it is, and its replay'
     'capture|tools/capture|--wasi MODULE [WORD..]|runs a module with a host of WASI and prints the script of its run'
     'capture|tools/capture|MODULE HOST [WORD..]|the same with a host in JavaScript'
+    'profile|tools/use/profile|REPLAY_MODULE or MODULE SCRIPT|where the turns, the calls and the weight of a run are'
     'check|check|[PROGRAM]|tests the program in about a minute'
 )
 # The commands that print the bytes of a module, a log or a tape.

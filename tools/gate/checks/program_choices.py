@@ -4,7 +4,7 @@ import os
 import shutil
 import subprocess
 
-from captures import major_version
+from node_tests import major_version
 from group import contents
 from programs import CAPTURE, OLDEST, captured, checks_of_folder, environment, put_programs, run
 

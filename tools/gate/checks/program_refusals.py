@@ -6,7 +6,7 @@ import signal
 import subprocess
 import time
 
-from captures import major_version
+from node_tests import major_version
 from group import LIMIT, ROOT, contents
 from programs import CAPTURE, OLDEST, captured, checks_of_folder, run
 

@@ -11,7 +11,7 @@ import shutil
 import subprocess
 import zlib
 
-from captures import major_version
+from node_tests import major_version
 from group import LIMIT, ROOT, Answer, contents
 from pictures import pixels
 

@@ -5,7 +5,7 @@ import re
 import shutil
 import subprocess
 
-from captures import major_version
+from node_tests import major_version
 from group import LIMIT
 
 SCRIPT = os.path.join(os.path.dirname(os.path.realpath(__file__)), "splits.mjs")
@@ -21,8 +21,12 @@ def checks(group):
         group.notes.append(f"Node.js {OLDEST} is not here: random splits are not checked")
         return
     ran = subprocess.run(
-        [node, "--no-warnings", SCRIPT, group.program, "1", str(MODULES), group.room], stdin=subprocess.DEVNULL,
-        stdout=subprocess.PIPE, stderr=subprocess.STDOUT, timeout=CALLS * LIMIT, check=False,
+        [node, "--no-warnings", SCRIPT, group.program, "1", str(MODULES), group.room],
+        stdin=subprocess.DEVNULL,
+        stdout=subprocess.PIPE,
+        stderr=subprocess.STDOUT,
+        timeout=CALLS * LIMIT,
+        check=False,
     )
     lines = ran.stdout.decode(errors="backslashreplace").splitlines()
     total = re.fullmatch(r"(\d+) passed, (\d+) failed", lines[-1] if lines else "")
