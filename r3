@@ -9,6 +9,7 @@ set -u
 outside=(
     'capture|tools/capture|--wasi MODULE [WORD..]|runs a module with a host of WASI and prints the script of its run'
     'capture|tools/capture|MODULE HOST [WORD..]|the same with a host in JavaScript'
+    'explain|tools/use/explain|FILE.wasm [--line LINE]|says why r3 refuses a module, and what to do'
     'check|check|[PROGRAM]|tests the program in about a minute'
 )
 # The commands that print the bytes of a module, a log or a tape.
