@@ -21,7 +21,12 @@ ROWS = [
     ("exceptions.wasm", 5, "malformed: at 174", ["tag, which begins at byte 174 (0xae)", "exception-handling:"]),
     ("catch.wasm", 5, "malformed: at 18", ["func 0 <calm>, instruction 0", "> 000017 0 try", "exception-handling:"]),
     ("tail_call.wasm", 5, "malformed: at 217", ["<jump>", "return_call 0 <other>", "tail-call:"]),
-    ("table_call.wasm", 5, "malformed: at 244", ["func 1 <pick>, instruction 2", "> 000100 2 call_indirect", "overlong"]),
+    (
+        "table_call.wasm",
+        5,
+        "malformed: at 244",
+        ["func 1 <pick>, instruction 2", "> 000100 2 call_indirect", "overlong"],
+    ),
     ("tables.wasm", 5, "malformed: at 27", ["<pick>", "call_indirect 1 (type 0)", "reference-types:"]),
     ("block.wasm", 5, "malformed: at 33", ["func 0 <sum>, instruction 2", "> 00002a 2 block (type 1)", "multivalue:"]),
     ("copies.wasm", 5, "malformed: at 233", ["DataCount, which begins at byte 233 (0xe9)", "bulk-memory:"]),
