@@ -11,6 +11,7 @@ outside=(
     'capture|tools/capture|--wasi MODULE [WORD..]|runs a module with a host of WASI and prints the script of its run'
     'capture|tools/capture|MODULE HOST [WORD..]|the same with a host in JavaScript'
     'profile|tools/use/profile|REPLAY_MODULE or MODULE SCRIPT|where the turns, the calls and the weight of a run are'
+    'explain|tools/use/explain|FILE.wasm [--line LINE]|says why r3 refuses a module, and what to do'
     'check|check|[PROGRAM]|tests the program in about a minute'
 )
 # The commands that print the bytes of a module, a log or a tape.

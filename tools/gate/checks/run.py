@@ -15,6 +15,7 @@ import calls
 import captures
 import engines
 import examples
+import explanations
 import files
 import instances
 import large
@@ -48,6 +49,7 @@ CHAINS = [
     [("two modules", pairs.checks)],
     [("a later call", rests.checks)],
     [("the script ./r3", wrapper.checks)],
+    [("./r3 explain", explanations.checks)],
     [("words and numbers", statuses.words), ("statuses and lines", statuses.checks)],
     [("files and outputs that fail", files.checks)],
     [("single calls", calls.checks)],

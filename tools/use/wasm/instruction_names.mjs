@@ -1,4 +1,5 @@
 /** The names of the instructions, by their numbers. */
+import { ATOMIC_NAMES, VECTOR_NAMES } from './prefixed_names.mjs';
 
 /** An instruction behind a prefix has the number `prefix << PREFIX_BITS | number`. */
 export const PREFIX_BITS = 12;
@@ -46,11 +47,15 @@ const BULK = words(0xfc << PREFIX_BITS, `i32.trunc_sat_f32_s i32.trunc_sat_f32_u
   i64.trunc_sat_f32_s i64.trunc_sat_f32_u i64.trunc_sat_f64_s i64.trunc_sat_f64_u memory.init data.drop memory.copy
   memory.fill table.init elem.drop table.copy table.grow table.size table.fill`);
 
-const NAMES = new Map([...CONTROL, ...MEMORY, ...NUMERIC, ...BULK]);
+const VECTORS = words(0xfd << PREFIX_BITS, VECTOR_NAMES);
+const ATOMICS = words(0xfe << PREFIX_BITS, ATOMIC_NAMES);
+
+const NAMES = new Map([...CONTROL, ...MEMORY, ...NUMERIC, ...BULK, ...VECTORS, ...ATOMICS]
+  .filter(([, text]) => text !== '-'));
 const PREFIXES = new Map([[0xfd, 'vector'], [0xfe, 'atomic']]);
 
 /**
- * The name of an instruction as the text format has it. Instructions for vectors and threads have their numbers.
+ * The name of an instruction as the text format has it; of one that has none here, its number.
  * @param {number} op
  * @returns {string}
  */

@@ -1,0 +1,1 @@
+(module (func $calm (try (do nop) (catch_all nop))))

@@ -1,0 +1,1 @@
+int whole(double x) { return (int)x; }

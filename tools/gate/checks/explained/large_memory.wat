@@ -1,0 +1,1 @@
+(module (import "host" "memory" (memory 4097)))

@@ -1,0 +1,1 @@
+int less(double x, double y) { return x < y; }

@@ -1,0 +1,4 @@
+struct pair {
+    int first, second;
+};
+struct pair swap(struct pair p) { return (struct pair){p.second, p.first}; }

@@ -1,0 +1,1 @@
+(module (import "a" "f" (func)) (import "r3" "x" (func)))

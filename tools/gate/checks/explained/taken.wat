@@ -1,0 +1,1 @@
+(module (import "foreign" "f" (func)) (import "left" "m" (memory 1)))

@@ -1,0 +1,1 @@
+int next(int *place) { return __atomic_fetch_add(place, 1, __ATOMIC_SEQ_CST); }
