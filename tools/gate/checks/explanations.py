@@ -5,7 +5,7 @@ import re
 import shutil
 import subprocess
 
-from captures import major_version
+from node_tests import major_version
 from group import ROOT, contents
 
 EXPLAIN = os.path.join(ROOT, "tools", "use", "explain")

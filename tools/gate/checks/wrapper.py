@@ -29,7 +29,7 @@ echo "$0: $*"
 """
 SOURCE = "crates/r3/src/main.rt"
 OURS = ("r3", "tools/use/find_program.sh", "tools/gate/sources_digest", "VERSION")
-OUTSIDE = {"capture": "tools/capture", "profile": "tools/use/profile", "check": "check"}
+OUTSIDE = {"capture": "tools/capture", "profile": "tools/use/profile", "explain": "tools/use/explain", "check": "check"}
 # The commands that print bytes, and those that print text.
 BINARY = ["make", "foreign", "pair", "from", "build", "instrument", "record", "reduce"]
 TEXT = ["history", "foreign-history", "pair-history", "replay", "show", "load"]
