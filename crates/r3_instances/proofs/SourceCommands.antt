@@ -138,7 +138,7 @@ module _ {X : Type 0} (source : Source X) (bytes : List ℕ) (turns : ℕ) (q : 
           → ((x : X) (script : Script) (printed : List ℕ) → source.IsRead x
           → IsReplayFor (source.recorded x) script turns printed → IsReplay x script printed)
           → IsReplayAnswer (IsReplayFor inputs.checked inputs.script turns)
-          (λ fault. IsUnmade inputs.checked inputs.script turns fault)
+          (IsUnmade inputs.checked inputs.script turns)
           (NeedsLightTape inputs.checked inputs.script turns) r
           → IsReplayAnswer (λ printed. HasReplay source bytes (λ x script. IsReplay x script printed))
           (HasNoReplay source bytes turns) (AreReplayable source bytes turns) r

@@ -1,4 +1,3 @@
 mod OneLog
 mod ModuleAnswers
 mod Forms
-pub mod FaultCases
