@@ -1,3 +1,2 @@
 mod OneLog
-mod ModuleAnswers
 mod Forms
