@@ -1,5 +1,7 @@
 // The host of callback.wasm: puts a function of its own into the table, which the program calls by its place there.
+/** @param {HostContext} context */
 export function host(context) {
+  /** @type {(cell: number, place: number) => number} */
   const visit = (cell, place) => {
     const { memory, add } = context.instance.exports;
     if (place === 1) new DataView(memory.buffer).setInt32(cell, 100, true);
@@ -18,7 +20,7 @@ export function host(context) {
         },
       },
     },
-    main(exports) {
+    main(/** @type {any} */ exports) {
       console.log('run gives', exports.run(7));
     },
   };

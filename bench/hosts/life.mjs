@@ -6,17 +6,19 @@ const PATTERN = `
 `.trim();
 const GENERATIONS = 56;
 
+/** @param {HostContext} context */
 export function host(context) {
   const memory = () => new Uint8Array(context.instance.exports.memory.buffer);
   return {
     imports: {
       env: {
-        pattern(to, room) {
+        pattern(/** @type {number} */ to, /** @type {number} */ room) {
           const bytes = Buffer.from(`${PATTERN}\n`);
           if (bytes.length > room) return 0;
           memory().set(bytes, to);
           return bytes.length;
         },
+        /** @type {(generation: number, cells: number, width: number, height: number) => number} */
         show(generation, cells, width, height) {
           const population = context.instance.exports.population(cells, width, height);
           console.log(`${generation}: ${width} by ${height}, ${population}`);
@@ -24,7 +26,7 @@ export function host(context) {
         },
       },
     },
-    main(exports) {
+    main(/** @type {any} */ exports) {
       console.log('left', exports.run());
     },
   };

@@ -10,18 +10,22 @@ const OUTER = [
 ];
 const INNER = '[a-z_]+(::[a-z_]+)*';
 const NOWHERE = -1;
-const letter = character => /\w/.test(String.fromCharCode(character));
+const letter = (/** @type {number} */ character) => /\w/.test(String.fromCharCode(character));
 
+/** @param {HostContext} context */
 export function host(context) {
   const text = fs.readFileSync(context.words[0]);
   const expressions = [...OUTER];
+  /** @type {[expression: string, count: number][]} */
   const counts = [];
   const exported = () => context.instance.exports;
+  /** @type {(bytes: Buffer, to: number, room: number) => number} */
   const put = (bytes, to, room) => {
     const part = bytes.subarray(0, room);
     new Uint8Array(exported().memory.buffer).set(part, to);
     return part.length;
   };
+  /** @type {((at: number) => number)[]} */
   const tests = [
     at => (letter(exported().character(at - 1)) !== letter(exported().character(at)) ? at : NOWHERE),
     at => {
@@ -32,16 +36,18 @@ export function host(context) {
   return {
     imports: {
       env: {
-        text: (to, room) => put(text, to, room),
-        expression(to, room) {
-          if (expressions.length > 0 && expressions[0] !== INNER) counts.push([expressions[0], 0]);
-          return expressions.length === 0 ? 0 : put(Buffer.from(expressions.shift()), to, room);
+        text: (/** @type {number} */ to, /** @type {number} */ room) => put(text, to, room),
+        expression(/** @type {number} */ to, /** @type {number} */ room) {
+          const next = expressions.shift();
+          if (next === undefined) return 0;
+          if (next !== INNER) counts.push([next, 0]);
+          return put(Buffer.from(next), to, room);
         },
-        test: (number, at) => tests[number](at),
-        found: () => { counts.at(-1)[1] += 1; },
+        test: (/** @type {number} */ number, /** @type {number} */ at) => tests[number](at),
+        found: () => { counts[counts.length - 1][1] += 1; },
       },
     },
-    main(exports) {
+    main(/** @type {any} */ exports) {
       exports.run();
       for (const [expression, count] of counts) console.log(`${expression}: ${count}`);
     },

@@ -4,6 +4,7 @@ declare module 'node:fs' {
     readFileSync(file: string | number): Buffer;
     readFileSync(file: string | number, encoding: 'utf8' | 'latin1'): string;
     writeFileSync(file: string | number, data: string | Uint8Array): void;
+    appendFileSync(file: string, data: string): void;
     writeSync(file: number, data: Uint8Array, offset?: number, length?: number): number;
     existsSync(file: string): boolean;
     mkdirSync(folder: string, options?: { recursive?: boolean }): void;
@@ -13,6 +14,9 @@ declare module 'node:fs' {
     readdirSync(folder: string): string[];
   };
   export default fs;
+}
+declare module 'fs' {
+  export function readFileSync(file: string): Buffer;
 }
 declare module 'node:os' {
   const os: { tmpdir(): string };
@@ -53,6 +57,8 @@ interface Buffer extends Uint8Array {
   equals(other: Uint8Array): boolean;
   compare(other: Uint8Array, from?: number, to?: number, ownFrom?: number, ownTo?: number): number;
   indexOf(value: number | string | Uint8Array, from?: number): number;
+  includes(value: number | string | Uint8Array, from?: number): boolean;
+  writeBigUInt64LE(value: bigint, place?: number): number;
 }
 declare const Buffer: {
   from(data: string, encoding?: string): Buffer;
@@ -60,6 +66,7 @@ declare const Buffer: {
   concat(parts: readonly Uint8Array[]): Buffer;
   alloc(size: number): Buffer;
 };
+declare function require(name: string): any;
 declare const process: {
   argv: string[];
   env: Record<string, string | undefined>;

@@ -20,7 +20,13 @@ import { wasiCases } from './capture_wasi_cases.mjs';
 const ENDING = '.history.txt';
 const RANDOM_MODULES = 20;
 
-/** The module of an example: a script with a longer name is another script for the module whose name it begins with. */
+/** @typedef {import('./running.mjs').Check} Check */
+/** @typedef {{ module: string, history: string, captured: import('./running.mjs').Answer, lines: string }} Run */
+
+/**
+ * The module of an example: a script with a longer name is another script for the module whose name it begins with.
+ * @param {string} example
+ */
 function moduleOf(example) {
   for (let name = example; name !== ''; name = name.slice(0, Math.max(0, name.lastIndexOf('_')))) {
     const file = path.join(root, 'examples', `${name}.wasm`);
@@ -29,10 +35,15 @@ function moduleOf(example) {
   throw new Error(`${example} has no module`);
 }
 
-/** For each example of one module alone with a history: the captured host that plays its script has this history. */
+/**
+ * For each example of one module alone with a history: the captured host that plays its script has this history.
+ * @param {Runner} runner
+ * @returns {Check[]}
+ */
 function examples(runner) {
   const folder = path.join(root, 'examples');
   const all = fs.readdirSync(folder).filter(file => file.endsWith(ENDING)).map(file => file.slice(0, -ENDING.length));
+  /** @type {(name: string) => string[]} */
   const besides = name => ['decls.json', 'left.wasm'].map(ending => path.join(folder, `${name}.${ending}`));
   const names = all.filter(name => !besides(name).some(file => fs.existsSync(file)));
   return names.map(name => [name, () => {
@@ -43,7 +54,10 @@ function examples(runner) {
   }]);
 }
 
-/** A line without the bits of its NaNs, which JavaScript may change on the way to a host. */
+/**
+ * A line without the bits of its NaNs, which JavaScript may change on the way to a host.
+ * @param {string} line
+ */
 function withoutNans(line) {
   return line
     .replace(/f32:[7f]f(?!800000)[89a-f]\w{5}/g, 'f32:nan')
@@ -53,27 +67,36 @@ function withoutNans(line) {
 /**
  * A random module and host, or null where the host cannot do what the script says, or a host in JavaScript cannot: call
  * exports while the start function runs, or answer imports of equal names in ways that differ by what was there before.
+ * @param {Runner} runner
+ * @param {number} seed
+ * @returns {Run | null}
  */
 function randomRun(runner, seed) {
   const random = new Random(seed);
   const module = randomModule(random);
   const files = [runner.file('wasm', module.bytes), runner.file('json', randomScript(random, module))];
   const lines = runner.file('lines', '');
-  const played = runner.history(...files, '20000');
+  const played = runner.history(files[0], files[1], '20000');
   if (played.status !== 0) return null;
   const captured = runner.capture([files[0], scriptHost, files[1], lines]);
   if (captured.errors.includes(NO_EXPORTS) || captured.errors.includes('are both imported as')) return null;
   return { module: files[0], history: played.output.toString(), captured, lines };
 }
 
-/** What is wrong with what was captured of a random host: its history, or the calls and returns that the host saw. */
+/**
+ * What is wrong with what was captured of a random host: its history, or the calls and returns that the host saw.
+ * @param {Runner} runner
+ * @param {Run} run
+ */
 function randomFault(runner, { module, history, captured, lines }) {
   const fault = difference(runner.historyOfCaptured(module, captured), history);
   const seen = fs.readFileSync(lines, 'utf8').split('\n').slice(0, -1);
   return fault ?? difference(seen.map(withoutNans).join('\n'), crossings(history).map(withoutNans).join('\n'));
 }
 
+/** @param {Runner} runner */
 function randomModules(runner) {
+  /** @type {Check[]} */
   const checks = [];
   for (let seed = 1; checks.length < RANDOM_MODULES; seed++) {
     const run = randomRun(runner, seed);
@@ -82,7 +105,11 @@ function randomModules(runner) {
   return checks;
 }
 
-/** Each run that cannot be written gives its line, the status 1, and nothing on standard output. */
+/**
+ * Each run that cannot be written gives its line, the status 1, and nothing on standard output.
+ * @param {Runner} runner
+ * @returns {Check[]}
+ */
 function refused(runner) {
   return refusals.map(([name, module, host, line]) => [name, () => {
     const { status, output, errors } = runner.capture([runner.file('wasm', module), runner.file('mjs', host)]);
@@ -92,6 +119,7 @@ function refused(runner) {
   }]);
 }
 
+/** @param {(string | undefined)[]} words */
 function main([program]) {
   if (program === undefined) {
     console.error('usage: tools/gate/checks/capture.mjs PROGRAM');

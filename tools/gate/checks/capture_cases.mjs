@@ -3,10 +3,19 @@ import path from 'node:path';
 import { constant, moduleBytes } from './module_bytes.mjs';
 import { difference, root, scriptHost } from './running.mjs';
 
+/** @typedef {import('./running.mjs').Runner} Runner */
+/** @typedef {import('./running.mjs').Check} Check */
+/** @typedef {import('./module_bytes.mjs').Parts} Parts */
+/** @typedef {NonNullable<Parts['types']>[number]} Type */
+
+/** @type {Type} */
 const EMPTY = { params: [], results: [] };
 const MOST_BYTES = 8388608;
 
-/** A module that imports `h.f` of a type, and exports `g`, which has this body, and a memory of one page. */
+/**
+ * A module that imports `h.f` of a type, and exports `g`, which has this body, and a memory of one page.
+ * @type {(type: Type, body: number[], more?: Parts) => Uint8Array}
+ */
 const importing = (type, body, more = {}) => moduleBytes({
   types: [type, EMPTY],
   imports: [{ module: 'h', name: 'f', kind: 'function', type: 0 }],
@@ -18,11 +27,12 @@ const importing = (type, body, more = {}) => moduleBytes({
 const CALL = [0x10, 0];
 const CALL_AND_DROP = [...CALL, 0x1a];
 
-const host = (imports, main, before = '') =>
+const host = (/** @type {string} */ imports, /** @type {string} */ main, before = '') =>
   `${before}\nexport function host(context) { return { imports: ${imports}, main(exports) { ${main} } }; }\n`;
-const script = (calls, main = '{"call":"g"}') =>
+const script = (/** @type {string[]} */ calls, main = '{"call":"g"}') =>
   `{"imports":{"h":{"f":{"calls":[${calls.map(call => `\n${call}`).join(',')}]}}},\n"main":[\n${main}]}\n`;
 
+/** @type {(type: import('./module_bytes.mjs').ValueType) => Uint8Array} */
 const floats = type => importing({ params: [], results: [type] }, CALL_AND_DROP);
 const NAN = `const bits = new DataView(new ArrayBuffer(8));
   const nan32 = () => { bits.setUint32(0, 0x7fc12345); return bits.getFloat32(0); };
@@ -52,7 +62,10 @@ const twice = moduleBytes({
   exports: [{ name: 'g', kind: 'function', index: 2 }],
 });
 
-/** Each with its module, its host, the script that is expected, and more words of the command. */
+/**
+ * Each with its module, its host, the script that is expected, and more words of the command.
+ * @type {[name: string, module: Uint8Array, host: string, expected: string, words?: string[]][]}
+ */
 const scripts = [
   ['a quiet NaN of 32 bits', floats('f32'), host('{ h: { f: nan32 } }', 'exports.g();', NAN),
     script(['{"return":{"f32":2143363909}}'])],
@@ -93,10 +106,20 @@ const scripts = [
       'exports.g();'), script(['{"return":{"i32":1}}'])],
 ];
 
+/**
+ * @param {Runner} runner
+ * @param {Uint8Array} module
+ * @param {string} text
+ * @param {string[]} words
+ */
 function captured(runner, module, text, words = []) {
   return runner.capture([...words, runner.file('wasm', module), runner.file('mjs', text)]);
 }
 
+/**
+ * @param {Runner} runner
+ * @returns {Check[]}
+ */
 function scriptChecks(runner) {
   return scripts.map(([name, module, text, expected, words]) => [name, () => {
     const { status, output, errors } = captured(runner, module, text, words);
@@ -107,6 +130,7 @@ function scriptChecks(runner) {
 /** How often the host and the module call each other in the deepest run. */
 const DEPTH = 20000;
 
+/** @type {(runner: Runner) => Check[]} */
 const others = runner => [
   ['many calls within calls', () => {
     const again = `{ h: { f() { if (n++ < ${DEPTH}) context.instance.exports.g(); } } }`;
@@ -139,5 +163,8 @@ const others = runner => [
   }],
 ];
 
-/** The checks of what hosts do. */
+/**
+ * The checks of what hosts do.
+ * @type {(runner: Runner) => Check[]}
+ */
 export const cases = runner => [...scriptChecks(runner), ...others(runner)];

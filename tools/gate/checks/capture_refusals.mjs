@@ -1,14 +1,19 @@
 /** Runs that cannot be written as a script: for each the module, the host, and the line that capture prints. */
 import { constant, moduleBytes } from './module_bytes.mjs';
 
+/** @typedef {import('./module_bytes.mjs').Parts} Parts */
+/** @typedef {NonNullable<Parts['types']>[number]} Type */
+
+/** @type {Type} */
 const EMPTY = { params: [], results: [] };
+/** @type {Type} */
 const NUMBER = { params: [], results: ['i32'] };
 const CALL = [0x10, 0];
 const DROP = 0x1a;
 const TRAP = 0x00;
 
 /** A module that imports `h.f`, and exports `g`, which calls it, and `t`, which traps. */
-const calls = (more = {}) => moduleBytes({
+const calls = (/** @type {Parts} */ more = {}) => moduleBytes({
   types: [EMPTY],
   imports: [{ module: 'h', name: 'f', kind: 'function', type: 0 }],
   functions: [{ type: 0, locals: [], body: CALL }, { type: 0, locals: [], body: [TRAP] }],
@@ -26,8 +31,9 @@ const withTable = () => moduleBytes({
   elements: [{ offset: 0, functions: [2] }],
 });
 
+/** @type {(description: object) => Uint8Array} */
 const shared = description => moduleBytes({ imports: [{ module: 'h', name: 'm', ...description }] });
-const twice = (one, other) => moduleBytes({
+const twice = (/** @type {Type} */ one, /** @type {Type} */ other) => moduleBytes({
   types: [one, other],
   imports: [0, 1].map(type => ({ module: 'h', name: 'f', kind: 'function', type })),
   functions: [{ type: 0, locals: [], body: [0x10, 0, DROP, 0x10, 1, DROP, ...constant('i32', 0)] }],
@@ -41,7 +47,7 @@ const other = JSON.stringify([...moduleBytes({
 })]);
 const OTHER = `new WebAssembly.Instance(new WebAssembly.Module(Uint8Array.from(${other}))).exports`;
 
-const host = (imports, main = '', before = '') =>
+const host = (/** @type {string} */ imports, main = '', before = '') =>
   `${before}\nexport function host(context) { return { imports: ${imports}, main(exports) { ${main} } }; }\n`;
 const F = '{ h: { f() {} } }';
 const CURE = '--decls FILE captures those that context.hostFunction makes';
@@ -57,7 +63,7 @@ const endless = () => moduleBytes({
   types: [EMPTY], functions: [{ type: 0, locals: [], body: [0x10, 0] }],
   exports: [{ name: 'g', kind: 'function', index: 0 }],
 });
-const started = (more = {}) => moduleBytes({
+const started = (/** @type {Parts} */ more = {}) => moduleBytes({
   types: [EMPTY], imports: [{ module: 'h', name: 'm', kind: 'memory', min: 1 }],
   functions: [{ type: 0, locals: [], body: [] }], start: 0, ...more,
 });
@@ -68,7 +74,10 @@ const twoGlobals = moduleBytes({
   imports: ['a', 'b'].map(name => ({ module: 'h', name, kind: 'global', type: 'i32', mutable: true })),
 });
 
-/** Each with the line that follows `capture: `, or a pattern of it where the engine's own words are in it. */
+/**
+ * Each with the line that follows `capture: `, or a pattern of it where the engine's own words are in it.
+ * @type {[name: string, module: Uint8Array, host: string, line: string | RegExp][]}
+ */
 export const refusals = [
   ['no module', Buffer.from('no module'), host(F), /^the module: WebAssembly.Module\(\): expected magic word/],
   ['two results', twoResults, host(F), 'type 0: 2 results, where a script gives at most one'],

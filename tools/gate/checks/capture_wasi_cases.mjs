@@ -7,19 +7,31 @@ import path from 'node:path';
 import { difference, root } from './running.mjs';
 import { host } from './script_host.mjs';
 
+/** @typedef {import('./running.mjs').Runner} Runner */
+/** @typedef {import('./running.mjs').Check} Check */
+/** @typedef {{ before?: string[], behind?: string[] }} Words */
+
 const WASI = 'wasi_snapshot_preview1';
 const SPAN = 8;
 
-/** Runs a module in this engine under a script, and gives the bytes that it hands to `fd_write`. */
+/**
+ * Runs a module in this engine under a script, and gives the bytes that it hands to `fd_write`.
+ * @param {string} module
+ * @param {string} script
+ */
 function written(module, script) {
   const bytes = fs.readFileSync(module);
+  /** @type {any} */
   const context = { file: module, words: [script], module: new WebAssembly.Module(bytes) };
   const { imports, main } = host(context);
+  /** @type {Buffer[]} */
   const parts = [];
   const memory = () => context.instance.exports.memory.buffer;
   const names = WebAssembly.Module.imports(context.module).map(item => item.name);
+  /** @type {{ [name: string]: any }} */
   const given = Object.fromEntries(names.map(name => [name, imports[WASI][name]]));
   const answer = given.fd_write;
+  /** @type {(file: number, spans: number, count: number, done: number) => number} */
   given.fd_write = (file, spans, count, done) => {
     const view = new DataView(memory());
     for (let at = spans; at < spans + SPAN * count; at += SPAN) {
@@ -37,7 +49,13 @@ function written(module, script) {
   return Buffer.concat(parts).toString();
 }
 
-/** Captures a program, and compares. Lines of capture itself are left out of what the program prints. */
+/**
+ * Captures a program, and compares. Lines of capture itself are left out of what the program prints.
+ * @param {Runner} runner
+ * @param {string} module
+ * @param {Words} words
+ * @param {object} options
+ */
 function outputFault(runner, module, words, options) {
   const captured = runner.capture(['--wasi', ...words.before ?? [], module, ...words.behind ?? []], options);
   if (captured.status !== 0) return captured.errors;
@@ -46,8 +64,13 @@ function outputFault(runner, module, words, options) {
   return difference(written(module, runner.file('json', captured.output)), said);
 }
 
+/**
+ * @param {Runner} runner
+ * @returns {Check[]}
+ */
 function benchPrograms(runner) {
   const folder = path.join(root, 'bench');
+  /** @type {{ name: string, host: string, words?: string[], input?: string[] }[]} */
   const programs = JSON.parse(fs.readFileSync(path.join(folder, 'programs.json'), 'utf8'));
   return programs.filter(program => program.host === '--wasi').map(({ name, words = [], input = [] }) => [name, () => {
     const given = Buffer.concat(input.map(file => fs.readFileSync(path.join(folder, file))));
@@ -58,9 +81,12 @@ function benchPrograms(runner) {
 const COMPILERS = ['clang', 'clang-14', 'clang-16', 'clang-19', 'clang-22'];
 const LATER = ['-mno-call-indirect-overlong', '-mno-reference-types', '--no-wasm-opt'];
 
-/** The program with a C library, compiled by each compiler that can, with the options that it knows. */
+/**
+ * The program with a C library, compiled by each compiler that can, with the options that it knows.
+ * @param {Runner} runner
+ */
 function compiled(runner) {
-  const source = path.join(root, 'tools', 'checks', 'wasi_program.c');
+  const source = path.join(root, 'tools', 'gate', 'checks', 'wasi_program.c');
   return COMPILERS.flatMap(compiler => {
     const module = path.join(runner.folder, `${compiler}.wasm`);
     const words = ['--target=wasm32-wasi', '-O2', '-s', '-o', module, source, '-lc-printscan-no-floating-point'];
@@ -69,6 +95,10 @@ function compiled(runner) {
   });
 }
 
+/**
+ * @param {Runner} runner
+ * @returns {Check[]}
+ */
 function libraryPrograms(runner) {
   return compiled(runner).map(([compiler, module]) => [`a C library, by ${compiler}`, () => {
     fs.writeFileSync(path.join(runner.folder, 'words.txt'), 'pear fig apple quince medlar plum\n');
@@ -81,4 +111,4 @@ function libraryPrograms(runner) {
   }]);
 }
 
-export const wasiCases = runner => [...benchPrograms(runner), ...libraryPrograms(runner)];
+export const wasiCases = (/** @type {Runner} */ runner) => [...benchPrograms(runner), ...libraryPrograms(runner)];

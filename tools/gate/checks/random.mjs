@@ -1,5 +1,6 @@
 /** Numbers that look random and are the same for the same seed (mulberry32). */
 export class Random {
+  /** @param {number} seed */
   constructor(seed) {
     this.state = seed >>> 0;
   }
@@ -11,18 +12,30 @@ export class Random {
     return (mixed ^ (mixed >>> 14)) >>> 0;
   }
 
+  /** @param {number} bound */
   below(bound) {
     return this.bits() % bound;
   }
 
+  /** @param {number} percent */
   chance(percent) {
     return this.below(100) < percent;
   }
 
+  /**
+   * @template Item
+   * @param {Item[]} list
+   */
   pick(list) {
     return list[this.below(list.length)];
   }
 
+  /**
+   * @template Item
+   * @param {number} most
+   * @param {(nothing: undefined, place: number) => Item} item
+   * @returns {Item[]}
+   */
   list(most, item) {
     return Array.from({ length: this.below(most + 1) }, item);
   }

@@ -4,31 +4,44 @@ import { valueText } from '../../use/capture_parts/values.mjs';
 
 const BYTES = ['00', '7f', 'ff', '01', 'c0', '2a'];
 
+/** @typedef {import('./random_modules.mjs').Module} Module */
+/** @typedef {import('./random_modules.mjs').Place} Place */
+/** @typedef {import('./random_modules.mjs').GlobalImport} GlobalImport */
+/** @typedef {import('./module_bytes.mjs').ValueType} ValueType */
+
 class Host {
+  /**
+   * @param {import('./random.mjs').Random} random
+   * @param {Module} module
+   */
   constructor(random, module) {
-    Object.assign(this, { random, module });
-    const reached = place => place.imported !== undefined || place.exported === true;
+    this.random = random;
+    this.module = module;
+    const reached = (/** @type {Place} */ place) => place.imported !== undefined || place.exported === true;
     this.reachesMemory = module.hasMemory && reached(module.memory);
     this.reachesTable = module.tableSize !== null && reached(module.table);
     this.functions = module.exports.filter(item => item.kind === 'function');
     this.callable = this.functions.filter(item => item.index >= module.imported.length);
+    this.importedGlobals = /** @type {GlobalImport[]} */ (module.imports.filter(item => item.kind === 'global'));
     this.globals = this.settable();
   }
 
   /** Mutable globals that are exported, or the first ones that are imported by their names. */
   settable() {
-    const { exports, allGlobals, imports } = this.module;
+    const { exports, allGlobals } = this.module;
     const exported = exports.filter(item => item.kind === 'global' && allGlobals[item.index].mutable)
       .map(item => ({ target: JSON.stringify(item.name), type: allGlobals[item.index].type }));
-    const imported = imports.filter(item => item.kind === 'global' && item.mutable)
+    const imported = this.importedGlobals.filter(item => item.mutable)
       .map(({ module, name, type }) => ({ target: JSON.stringify({ import: [module, name] }), type }));
     return [...exported, ...imported];
   }
 
+  /** @param {ValueType} type */
   value(type) {
     return valueText(type, randomBits(this.random, type));
   }
 
+  /** @param {number} type */
   args(type) {
     const { params } = this.module.types[type];
     return params.length === 0 ? '' : `,"args":[${params.map(param => this.value(param)).join(',')}]`;
@@ -39,11 +52,16 @@ class Host {
     return `{"call":${JSON.stringify(name)}${this.args(this.module.functionType(index))}}`;
   }
 
-  /** Actions that the host can do; none of them calls where `calls` is false. */
+  /**
+   * Actions that the host can do; none of them calls where `calls` is false.
+   * @param {number} most
+   * @param {boolean} calls
+   */
   actions(most, calls) {
     return this.random.list(most, () => this.action(calls)).filter(text => text !== null);
   }
 
+  /** @param {boolean} calls */
   action(calls) {
     const { random } = this;
     const kind = random.below(10);
@@ -70,6 +88,10 @@ class Host {
     return `{"call_table":${this.random.below(4)}${this.args(this.random.below(this.module.types.length))}}`;
   }
 
+  /**
+   * @param {number} type
+   * @param {boolean} calls
+   */
   response(type, calls) {
     const [result] = this.module.types[type].results;
     const actions = this.actions(4, calls);
@@ -80,22 +102,26 @@ class Host {
   }
 
   answers() {
+    /** @type {Map<string, Map<string, string>>} */
     const modules = new Map();
     for (const { module, name, type } of this.module.imported) {
-      if (!modules.has(module)) modules.set(module, new Map());
+      const names = modules.get(module) ?? new Map();
+      modules.set(module, names);
       const calls = this.random.list(6, () => this.response(type, true)).join(',');
-      modules.get(module).set(name, `{"calls":[${calls}],"rest":${this.response(type, false)}}`);
+      names.set(name, `{"calls":[${calls}],"rest":${this.response(type, false)}}`);
     }
     return objectText(modules);
   }
 
   supplies() {
-    const { imports, memory, table } = this.module;
+    const { memory, table } = this.module;
+    /** @type {Map<string, Map<string, string>>} */
     const globals = new Map();
-    for (const { module, name, type } of imports.filter(item => item.kind === 'global')) {
-      if (!globals.has(module)) globals.set(module, new Map());
-      globals.get(module).set(name, this.value(type));
+    for (const { module, name, type } of this.importedGlobals) {
+      const names = globals.get(module) ?? new Map();
+      globals.set(module, names.set(name, this.value(type)));
     }
+    /** @type {(limits: import('./module_bytes.mjs').Limits) => string} */
     const max = ({ max: most }) => (most === undefined ? '' : `,"max":${most - 1}`);
     const parts = [`"globals":${objectText(globals)}`];
     const { imported } = memory;
@@ -110,11 +136,17 @@ class Host {
   }
 }
 
+/** @param {Map<string, Map<string, string>>} modules */
 function objectText(modules) {
+  /** @type {(items: Map<string, string>) => string} */
   const names = items => [...items].map(([name, text]) => `${JSON.stringify(name)}:${text}`).join(',');
   return `{${[...modules].map(([module, items]) => `${JSON.stringify(module)}:{${names(items)}}`).join(',')}}`;
 }
 
+/**
+ * @param {import('./random.mjs').Random} random
+ * @param {Module} module
+ */
 export function randomScript(random, module) {
   return new Host(random, module).text();
 }

@@ -3,6 +3,7 @@
 "use strict";
 const fs = require("fs");
 
+/** @param {Uint8Array} bytes */
 function outcome(bytes) {
   if (!WebAssembly.validate(bytes)) return "is not valid";
   const module = new WebAssembly.Module(bytes);

@@ -10,20 +10,31 @@ import { madeGlobal, number, printed, setGlobal } from './values_in_tests.mjs';
 
 export const NO_EXPORTS = 'there are no exports yet';
 
+/** @typedef {import('../../use/capture_parts/module_types.mjs').ValueType} ValueType */
+/** @typedef {import('../../use/capture_parts/module_types.mjs').FunctionType} FunctionType */
+/** @typedef {import('../../use/capture_parts/module_types.mjs').ImportNames} ImportNames */
+/** @typedef {import('../../use/capture_parts/module_types.mjs').GlobalImport} GlobalImport */
+/** @typedef {(...values: any[]) => any} Func */
+
 const LONG_NUMBER = /(:\s*)(-?\d{16,})/g;
 
-/** A script, in which a number that JavaScript would round is a text. */
+/**
+ * A script, in which a number that JavaScript would round is a text.
+ * @param {string} file
+ */
 function scriptOf(file) {
   return JSON.parse(fs.readFileSync(file, 'utf8').replace(LONG_NUMBER, '$1"$2"'));
 }
 
 /** What is given for the imports of a module, each by its kind. */
 class Given {
+  /** @param {Player} player */
   constructor(player) {
     this.player = player;
     this.functionCount = 0;
   }
 
+  /** @param {ImportNames} item */
   function({ module, name }) {
     const index = this.functionCount++;
     const type = this.player.types.functions[index];
@@ -40,6 +51,7 @@ class Given {
     return this.player.table = new WebAssembly.Table({ element: 'anyfunc', initial: size, maximum: max });
   }
 
+  /** @param {GlobalImport} item */
   global(item) {
     const { module, name } = item;
     const key = JSON.stringify([module, name]);
@@ -50,20 +62,32 @@ class Given {
 }
 
 class Player {
+  /**
+   * @param {any} script
+   * @param {HostContext} context
+   */
   constructor(script, context) {
     this.script = script;
     this.context = context;
     this.types = moduleTypes(fs.readFileSync(context.file));
+    /** @type {WebAssembly.Memory | null} */
     this.memory = null;
+    /** @type {WebAssembly.Table | null} */
     this.table = null;
+    /** @type {Map<string, WebAssembly.Global>} */
     this.globals = new Map();
     this.linesFile = context.words[1];
     if (this.linesFile !== undefined) fs.writeFileSync(this.linesFile, '');
+    /** @type {{ name: string, params: ValueType[], results: ValueType[] }[]} */
     const declarations = context.words[2] === undefined ? [] : JSON.parse(fs.readFileSync(context.words[2], 'utf8'));
     this.declared = new Map(declarations.map((item, place) => [item.name, this.made(item, place)]));
   }
 
-  /** A function of the host's own, which is numbered behind the imports. */
+  /**
+   * A function of the host's own, which is numbered behind the imports.
+   * @param {{ name: string, params: ValueType[], results: ValueType[] }} declaration
+   * @param {number} place
+   */
   made({ name, params, results }, place) {
     const type = { params, result: results[0] ?? null };
     const response = this.script.imports?.foreign?.[name] ?? {};
@@ -71,7 +95,10 @@ class Player {
     return this.context.hostFunction(name, { params, results }, answering);
   }
 
-  /** The number of a function of the module among all functions: the host's own are behind the imports. */
+  /**
+   * The number of a function of the module among all functions: the host's own are behind the imports.
+   * @param {number} index
+   */
   numbered(index) {
     return index < this.types.importedFunctions ? index : index + this.declared.size;
   }
@@ -80,23 +107,37 @@ class Player {
   imports() {
     const given = new Given(this);
     const modules = Object.create(null);
+    /** @type {Map<string, unknown[]>} */
     const waiting = new Map();
     for (const item of this.types.imports) {
       const key = JSON.stringify([item.module, item.name]);
-      waiting.set(key, [...waiting.get(key) ?? [], given[item.kind](item)]);
+      const value = item.kind === 'global' ? given.global(item) : given[item.kind](item);
+      waiting.set(key, [...waiting.get(key) ?? [], value]);
       modules[item.module] ??= Object.create(null);
-      const get = () => waiting.get(key).shift();
+      const get = () => waiting.get(key)?.shift();
       Object.defineProperty(modules[item.module], item.name, { get, configurable: true });
     }
     return modules;
   }
 
+  /**
+   * @param {string} entry
+   * @param {number} index
+   * @param {ValueType[]} types
+   * @param {any[]} values
+   */
   line(entry, index, types, values) {
     if (this.linesFile === undefined) return;
     const line = [entry, index, ...types.map((type, place) => printed(type, values[place]))].join(' ');
     fs.appendFileSync(this.linesFile, `${line}\n`);
   }
 
+  /**
+   * @param {number} index
+   * @param {FunctionType} type
+   * @param {{ calls?: any[], rest?: any }} answer
+   * @returns {Func}
+   */
   answering(index, { params, result }, { calls = [], rest }) {
     let call = 0;
     return (...args) => {
@@ -117,12 +158,25 @@ class Player {
     return this.context.instance.exports;
   }
 
+  /**
+   * @template Item
+   * @param {new (...values: any[]) => Item} kind
+   * @returns {Item}
+   */
   exported(kind) {
-    return Object.values(this.exports()).find(value => value instanceof kind);
+    return /** @type {Item} */ (Object.values(this.exports()).find(value => value instanceof kind));
   }
 
+  /**
+   * @param {any[]} actions
+   * @param {any[]} args
+   */
   do(actions, args) {
-    for (const action of actions) ACTIONS.find(([lead]) => lead in action)[1](this, action, args);
+    for (const action of actions) {
+      const found = ACTIONS.find(([lead]) => lead in action);
+      if (found === undefined) throw new Error(`no action: ${Object.keys(action).join()}`);
+      found[1](this, action, args);
+    }
   }
 
   bytes() {
@@ -133,6 +187,11 @@ class Player {
     return this.table ?? this.exported(WebAssembly.Table);
   }
 
+  /**
+   * @param {number} index
+   * @param {Func} func
+   * @param {any[]} args
+   */
   call(index, func, args) {
     const { params, result } = this.types.functions[index];
     this.line('host-call', this.numbered(index), params, args);
@@ -140,33 +199,51 @@ class Player {
     this.line('host-return', this.numbered(index), result === null ? [] : [result], [returned]);
   }
 
+  /** @param {string} name */
   functionOf(name) {
     return this.declared.get(name) ?? this.exports()[name];
   }
 
+  /** @param {string} name */
   functionIndex(name) {
-    return this.types.exports.find(item => item.name === name).index;
+    const found = this.types.exports.find(item => item.name === name);
+    if (found === undefined) throw new Error(`no export ${name}`);
+    return found.index;
   }
 
-  /** The number of a function from the table: an export's, or the one that the engine names the function by. */
+  /**
+   * The number of a function from the table: an export's, or the one that the engine names the function by.
+   * @param {Func} func
+   */
   tableFunction(func) {
     const found = this.types.exports.find(item => item.kind === 'function' && this.exports()[item.name] === func);
     return found === undefined ? Number(func.name) : found.index;
   }
 
+  /** The number of the start function, which there is. */
+  startNumber() {
+    return this.numbered(/** @type {number} */ (this.types.start));
+  }
+
   /** What the host does by itself, behind the start function. */
   main() {
-    if (this.types.startIsDefined) this.line('host-return', this.numbered(this.types.start), [], []);
+    if (this.types.startIsDefined) this.line('host-return', this.startNumber(), [], []);
     this.do(this.script.main ?? [], []);
   }
 }
 
+/**
+ * @param {number | { arg: number, plus?: number }} given
+ * @param {any[]} args
+ */
 function address(given, args) {
   return typeof given === 'number' ? given : (args[given.arg] >>> 0) + (given.plus ?? 0);
 }
 
-/** What each action does, by its lead key. */
-const ACTIONS = Object.entries({
+/** @typedef {(player: Player, action: any, args: any[]) => void} Action */
+
+/** @type {{ [lead: string]: Action }} */
+const ACTION = {
   write: (player, { write, bytes }, args) => player.bytes().set(Buffer.from(bytes, 'hex'), address(write, args)),
   copy: (player, { copy, from, count }, args) => {
     const source = address(from, args);
@@ -188,11 +265,15 @@ const ACTIONS = Object.entries({
     const func = player.hostTable().get(entry);
     player.call(player.tableFunction(func), func, args.map(number));
   },
-});
+};
 
+/** What each action does, by its lead key. */
+const ACTIONS = Object.entries(ACTION);
+
+/** @param {HostContext} context */
 export function host(context) {
   const player = new Player(scriptOf(context.words[0]), context);
   const imports = player.imports();
-  if (player.types.startIsDefined) player.line('host-call', player.numbered(player.types.start), [], []);
+  if (player.types.startIsDefined) player.line('host-call', player.startNumber(), [], []);
   return { imports, main: () => player.main() };
 }

@@ -1,13 +1,22 @@
 /** Values of scripts and histories as JavaScript has them, in the tests. */
+/** @typedef {import('../../use/capture_parts/module_types.mjs').ValueType} ValueType */
+/** @typedef {{ [type: string]: number | string }} ScriptValue an object with one key, its type */
+
 const pattern = new DataView(new ArrayBuffer(8));
 
+/** @type {{ [type: string]: number }} */
 const TYPES = { i32: 0x7f, i64: 0x7e, f32: 0x7d, f64: 0x7c };
+/** @type {{ [type: string]: number[] }} */
 const REINTERPRET = { i32: [], i64: [], f32: [0xbe], f64: [0xbf] };
-const integerOf = type => (type.endsWith('32') ? TYPES.i32 : TYPES.i64);
+const integerOf = (/** @type {string} */ type) => (type.endsWith('32') ? TYPES.i32 : TYPES.i64);
 const PREAMBLE = [0x00, 0x61, 0x73, 0x6d, 0x01, 0x00, 0x00, 0x00];
-const section = (id, bytes) => [id, bytes.length, ...bytes];
+const section = (/** @type {number} */ id, /** @type {number[]} */ bytes) => [id, bytes.length, ...bytes];
 
-/** A value of a script as JavaScript has it. An f32 that is a signalling NaN becomes quiet on the way. */
+/**
+ * A value of a script as JavaScript has it. An f32 that is a signalling NaN becomes quiet on the way.
+ * @param {ScriptValue} value
+ * @returns {number | bigint}
+ */
 export function number(value) {
   const [[type, bits]] = Object.entries(value);
   if (type === 'i32') return Number(bits) | 0;
@@ -20,7 +29,11 @@ export function number(value) {
   return pattern.getFloat64(0);
 }
 
-/** A value of JavaScript as a history prints it. */
+/**
+ * A value of JavaScript as a history prints it.
+ * @param {string} type
+ * @param {any} value
+ */
 export function printed(type, value) {
   if (type === 'i32') pattern.setInt32(0, value);
   if (type === 'f32') pattern.setFloat32(0, value);
@@ -30,7 +43,11 @@ export function printed(type, value) {
   return `${type}:${digits.padStart(type.endsWith('32') ? 8 : 16, '0')}`;
 }
 
-/** Sets a mutable global to the bits of a value, by a module of one function: JavaScript would lose those of a NaN. */
+/**
+ * Sets a mutable global to the bits of a value, by a module of one function: JavaScript would lose those of a NaN.
+ * @param {WebAssembly.Global} global
+ * @param {ScriptValue} value
+ */
 export function setGlobal(global, value) {
   const [[type, bits]] = Object.entries(value);
   const bytes = Uint8Array.from([
@@ -42,10 +59,15 @@ export function setGlobal(global, value) {
     ...section(10, [1, 6 + REINTERPRET[type].length, 0, 0x20, 0, ...REINTERPRET[type], 0x24, 0, 0x0b]),
   ]);
   const { exports } = new WebAssembly.Instance(new WebAssembly.Module(bytes), { g: { g: global } });
-  exports.s(integerOf(type) === TYPES.i64 ? BigInt(bits) : Number(bits));
+  const set = /** @type {(bits: number | bigint) => void} */ (exports.s);
+  set(integerOf(type) === TYPES.i64 ? BigInt(bits) : Number(bits));
 }
 
-/** A new global with the bits of a value. */
+/**
+ * A new global with the bits of a value.
+ * @param {{ type: ValueType, mutable: boolean }} globalType
+ * @param {ScriptValue} value
+ */
 export function madeGlobal({ type, mutable }, value) {
   if (!mutable) return new WebAssembly.Global({ value: type }, number(value));
   const global = new WebAssembly.Global({ value: type, mutable: true }, type === 'i64' ? 0n : 0);

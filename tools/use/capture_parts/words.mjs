@@ -18,21 +18,47 @@ HOST        a file of JavaScript that exports host(context), which gives { impor
 /** Thrown where the words are none of the command's. */
 export class WordsFault extends Error {}
 
+/**
+ * @typedef {object} Words
+ * @property {boolean} relative
+ * @property {boolean} wasi
+ * @property {boolean} help
+ * @property {string | null} declarations
+ * @property {[name: string, path: string][]} folders
+ * @property {{ [name: string]: string }} environment
+ * @property {string} module
+ * @property {string | null} host null if the host is that of WASI
+ * @property {string[]} words
+ */
+
+/** @type {{ [word: string]: 'relative' | 'wasi' | 'help' }} */
 const FLAGS = { '--relative': 'relative', '--wasi': 'wasi', '--help': 'help' };
 
-/** Reads `--dir FOLDER[::NAME]` or `--env NAME=VALUE` into a list of pairs. */
+/**
+ * Reads `--dir FOLDER[::NAME]` or `--env NAME=VALUE` into a list of pairs.
+ * @param {string | undefined} word
+ * @param {string} separator
+ * @returns {[string, string | null]}
+ */
 function pair(word, separator) {
   const [name, ...rest] = (word ?? '').split(separator);
   if (name === '') throw new WordsFault();
   return [name, rest.length > 0 ? rest.join(separator) : null];
 }
 
+/**
+ * @param {string[]} given
+ * @returns {Words}
+ */
 export function readWords(given) {
-  const words = { relative: false, wasi: false, help: false, declarations: null };
-  Object.assign(words, { folders: [['.', '.']], environment: {} });
+  /** @type {Words} */
+  const words = {
+    relative: false, wasi: false, help: false, declarations: null,
+    folders: [['.', '.']], environment: {}, module: '', host: null, words: [],
+  };
   const left = [...given];
   while (left[0]?.startsWith('--')) {
-    const word = left.shift();
+    const word = left.shift() ?? '';
     if (word in FLAGS) {
       words[FLAGS[word]] = true;
     } else if (word === '--dir') {
@@ -47,9 +73,11 @@ export function readWords(given) {
       throw new WordsFault();
     }
   }
-  words.module = left.shift();
-  words.host = words.wasi ? null : left.shift();
-  words.words = left;
-  if (!words.help && (words.module === undefined || words.host === undefined)) throw new WordsFault();
-  return words;
+  const module = left.shift();
+  const host = words.wasi ? null : left.shift();
+  if (module === undefined || host === undefined) {
+    if (words.help) return words;
+    throw new WordsFault();
+  }
+  return { ...words, module, host, words: left };
 }
