@@ -1,19 +1,17 @@
 -- Modules with other functions in the originals' places, and what it means that all checks are passed.
-use Rattle.std.specs.Prelude.{◌≡◌, ℕ, suc, List, ◌++◌, length, map, Some, slice_get}
+use Rattle.std.specs.Prelude.{◌≡◌, ℕ, List, ◌++◌, map, Some, slice_get}
 use Rattle.wasm_syntax.specs.declared.modules.Func.{Func}
 use Rattle.wasm_syntax.specs.declared.modules.Module.{Module}
 use Rattle.base.specs.declared.outcomes.Outcome.{Outcome}
-use Rattle.base.specs.declared.outcomes.Outcome.TheVariants.{Ended}
 use Rattle.history_spec.specs.Code.{i32_value}
 use Rattle.history_spec.specs.Store.{Store}
-use Rattle.history_spec.specs.Configuration.{Config}
-use Rattle.history_spec.specs.Step.{Running, Finished, StepResult}
+use Rattle.history_spec.specs.Step.{Finished, StepResult}
 use Rattle.history_spec.specs.Projection.{Layout}
 use Rattle.type_safety.specs.Supplies.{IsRunnable}
 use Rattle.guarded_module_spec.specs.Numbers.{Numbers, begun, passed}
 use Rattle.guarded_module_spec.specs.GuardedModules.{funcs_in_places, original_funcs, appended_funcs}
 use Rattle.guarded_module_spec.specs.Forms.{IsGuardable}
-use Rattle.guarded_module_spec.specs.Runs.{run_alone}
+use Rattle.guarded_module_spec.specs.Runs.{run_alone, store_alone}
 
 -- a module with other functions in the originals' places
 abbrev pub with_originals : Layout → List Func → Module → Module
@@ -31,16 +29,9 @@ pub record HasCounts (n : Numbers) (store : Store) (begun_count passed_count : �
   pub begun_is : slice_get store.globals (begun n) ≡ Some (i32_value begun_count)
   pub passed_is : slice_get store.globals (passed n) ≡ Some (i32_value passed_count)
 
--- the run is over in the step after `before`, where all checks have begun and are passed
-pub record EndsAfterAll (m : Module) (n : Numbers) (initial : StepResult) (checks : ℕ) (own : Outcome) : Type 0 where
-  pub before : ℕ
-  pub config : Config
-  pub last : (run_alone m initial before).at ≡ Running config
-  pub over : (run_alone m initial (suc before)).at ≡ Finished own
-  pub counts : HasCounts n config.store checks checks
-
--- the run is over by this outcome, and all checks are passed: the exported function has returned, or there is a trap
--- after all checks
-abbrev pub IsPassed : Module → Numbers → StepResult → (checks : ℕ) → Outcome → Type 0
-IsPassed m n initial checks Ended = Unit {0}
-IsPassed m n initial checks own = EndsAfterAll m n initial checks own
+-- the run is over after this number of steps, and then all checks have begun and are passed, as a harness sees that
+-- reads the three globals
+pub record IsPassed (m : Module) (n : Numbers) (initial : StepResult) (count checks : ℕ) : Type 0 where
+  pub own : Outcome
+  pub over : (run_alone m initial count).at ≡ Finished own
+  pub counts : HasCounts n (store_alone m initial count) checks checks

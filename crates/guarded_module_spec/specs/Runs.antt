@@ -1,18 +1,18 @@
 -- The words of a run of a replay module so far, and those of its whole run.
-use Rattle.std.specs.Prelude.{◌≡◌, ℕ, zero, suc, List, [], ◌∷◌, ◌++◌, Option, Some, None, Ok}
+use Rattle.std.specs.Prelude.{◌≡◌, ℕ, zero, suc, List, [], ◌∷◌, ◌++◌, Option, None, Ok}
 use Rattle.wasm_syntax.specs.declared.modules.Module.{Module}
 use Rattle.base.specs.declared.outcomes.Outcome.{Outcome}
 use Rattle.history_spec.specs.declared.entries.Entry.{Entry}
 use Rattle.history_spec.specs.Store.{Store, Memory}
-use Rattle.history_spec.specs.Configuration.{Frame, Activation, InModule, InMain, Config}
-use Rattle.history_spec.specs.Instruction.{Control, Goes, Calls, Returns, Execution, Did, Traps, NoRule, execute}
-use Rattle.history_spec.specs.Step.{Program, Progress, Running, Finished, Faulted, Stuck, StepResult, step}
+use Rattle.history_spec.specs.Configuration.{Activation, InModule, Config}
+use Rattle.history_spec.specs.Instruction.{Control, Goes, Execution, Did, execute}
+use Rattle.history_spec.specs.Step.{Program, Progress, Running, Finished, StepResult, step}
 use Rattle.history_spec.specs.Run.{Run, run_from}
 use Rattle.history_spec.specs.Replay.{instructions, program_alone, run_start_alone}
 use Rattle.history_spec.specs.Projection.{Layout, shown_entries}
 use Rattle.guarded_module_spec.specs.Words.{words_of, end_words}
 
--- ---- the memory that a run leaves
+-- ---- the store that a run leaves
 
 -- the store after control went on, into a function or out of one
 abbrev pub store_of_control : Store → Control → Store
@@ -33,20 +33,21 @@ store_after_on program store stack = store
 abbrev pub store_after : Program → Config → Store
 store_after program config = store_after_on program config.store config.stack
 
--- the memory after some steps of a run without imports; if the run is over before, the memory that it leaves
-abbrev pub memory_after : Program → ℕ → Progress → (so_far : Option Memory) → Option Memory
-memory_after program zero (Running config) so_far = config.store.memory
-memory_after program (suc count) (Running config) so_far =
-    memory_after program count (step program config).next (store_after program config).memory
-memory_after program count at so_far = so_far
+-- the store after some steps of a run without imports, or that which the run leaves if it is over before
+abbrev pub store_after_steps : Program → ℕ → Progress → (so_far : Store) → Store
+store_after_steps program zero (Running config) so_far = config.store
+store_after_steps program (suc count) (Running config) so_far =
+    store_after_steps program count (step program config).next (store_after program config)
+store_after_steps program count at so_far = so_far
 
 -- the run of a module without imports after some steps
 abbrev pub run_alone : Module → StepResult → ℕ → Run
 run_alone m initial count = run_from (program_alone m) instructions initial count
 
--- the memory of the run of a module without imports after some steps
-abbrev pub memory_alone : Module → StepResult → ℕ → Option Memory
-memory_alone m initial count = memory_after (program_alone m) count initial.next None
+-- the store of that run
+abbrev pub store_alone : Module → StepResult → ℕ → Store
+store_alone m initial count =
+    store_after_steps (program_alone m) count initial.next (record { memory = None; table = None; globals = [] })
 
 -- ---- words
 
@@ -63,7 +64,7 @@ words_at_end at memory = []
 abbrev pub words_after : Module → Layout → StepResult → ℕ → List ℕ
 words_after m layout initial count =
     words_of (shown layout (run_alone m initial count))
-    ++ words_at_end (run_alone m initial count).at (memory_alone m initial count)
+    ++ words_at_end (run_alone m initial count).at (store_alone m initial count).memory
 
 -- the run of a replay module is over, and these are its words
 pub record AreWords (m : Module) (layout : Layout) (entry : ℕ) (words : List ℕ) : Type 0 where
