@@ -8,7 +8,8 @@ use Rattle.history_spec.specs.Store.{Store}
 use Rattle.history_spec.specs.Step.{Finished, StepResult}
 use Rattle.history_spec.specs.Projection.{Layout}
 use Rattle.type_safety.specs.Supplies.{IsRunnable}
-use Rattle.guarded_module_spec.specs.Numbers.{Numbers, begun, passed}
+use Rattle.guarded_module_spec.specs.declared.numbers.Numbers.{Numbers}
+use Rattle.guarded_module_spec.specs.Numbers.{begun, passed}
 use Rattle.guarded_module_spec.specs.GuardedModules.{funcs_in_places, original_funcs, appended_funcs}
 use Rattle.guarded_module_spec.specs.Forms.{IsGuardable}
 use Rattle.guarded_module_spec.specs.Runs.{run_alone, store_alone}

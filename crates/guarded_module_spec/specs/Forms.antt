@@ -2,10 +2,11 @@
 use Rattle.std.specs.Prelude.{◌≡◌, ℕ, ◌+◌, ◌≤◌, List, None, Bool, true, false, nat_eq}
 use Rattle.std.specs.List.{list_any}
 use Rattle.wasm_syntax.specs.declared.instructions.Instr.{Instr}
-use Rattle.wasm_syntax.specs.declared.instructions.Instr.TheVariants.{CallIndirect, RefFunc}
+use Rattle.wasm_syntax.specs.declared.instructions.Instr.TheVariants.{CallIndirect}
 use Rattle.wasm_syntax.specs.declared.modules.Func.{Func}
 use Rattle.wasm_syntax.specs.declared.modules.Module.{Module}
 use Rattle.history_spec.specs.Projection.{Layout}
+use Rattle.replay_module_spec.specs.Fragments.{referred_funcs}
 use Rattle.replay_form.specs.Forms.{IsReplayable}
 use Rattle.guarded_module_spec.specs.GuardedModules.{outside_funcs}
 
@@ -13,11 +14,6 @@ use Rattle.guarded_module_spec.specs.GuardedModules.{outside_funcs}
 abbrev pub is_indirect : Instr → Bool
 is_indirect (CallIndirect ty) = true
 is_indirect instr = false
-
--- a reference to the function
-abbrev pub refers : ℕ → Instr → Bool
-refers func (RefFunc referred) = nat_eq func referred
-refers func instr = false
 
 -- an instruction of some function passes the test
 abbrev pub has_instr : (Instr → Bool) → List Func → Bool
@@ -30,4 +26,4 @@ pub record IsGuardable (m : Module) (layout : Layout) (entry : ℕ) : Type 0 whe
   pub start : m.start ≡ None
   pub appended : layout.imports + layout.defined ≤ entry
   pub direct : has_instr is_indirect (outside_funcs layout m.funcs) ≡ false
-  pub unreferred : has_instr (refers entry) m.funcs ≡ false
+  pub unreferred : list_any (nat_eq entry) (referred_funcs m.funcs) ≡ false

@@ -9,7 +9,8 @@ use Rattle.wasm_syntax.specs.declared.instructions.Instr.{Instr}
 use Rattle.wasm_syntax.specs.declared.instructions.Instr.TheVariants.{Unreachable, End, Call, LocalGet, LocalSet, Const, Numeric}
 use Rattle.wasm_syntax.specs.declared.modules.Func.{Func}
 use Rattle.wasm_syntax.specs.declared.modules.Run.{Run}
-use Rattle.guarded_module_spec.specs.Numbers.{Numbers, behind, check_place}
+use Rattle.guarded_module_spec.specs.declared.numbers.Numbers.{Numbers}
+use Rattle.guarded_module_spec.specs.Numbers.{behind, check_place}
 
 -- code that makes the value on the stack a word: its bits as an i64
 abbrev pub to_word : ValType → List Instr

@@ -13,7 +13,8 @@ use Rattle.replay_module_spec.specs.Dispatch.{dispatch, body_of}
 use Rattle.replay_module_spec.specs.Functions.{group_count, import_nest, one_i32}
 use Rattle.guarded_module_spec.specs.declared.words.TheConstants.{DIGEST_FACTOR, DIGEST_ROTATION}
 use Rattle.guarded_module_spec.specs.Words.{end_word}
-use Rattle.guarded_module_spec.specs.Numbers.{Numbers, digest_place, check_place, next_place, first_group, start_type_place, check_type_place, word_type_place, group_type_place, begun, passed}
+use Rattle.guarded_module_spec.specs.declared.numbers.Numbers.{Numbers}
+use Rattle.guarded_module_spec.specs.Numbers.{digest_place, check_place, next_place, first_group, start_type_place, check_type_place, word_type_place, group_type_place, begun, passed}
 use Rattle.guarded_module_spec.specs.Fronts.{i64_const, check_number, one_local}
 
 -- ---- the exported function

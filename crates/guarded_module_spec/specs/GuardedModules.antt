@@ -1,6 +1,6 @@
 -- The guarded module of a replay module: it compares the words of its run with given ones.
-use Rattle.std.specs.Prelude.{ℕ, ◌+◌, List, [], ◌∷◌, ◌++◌, length, map, take, drop, Bool, true, false, nat_eq, codes}
-use Rattle.std.specs.List.{enumerate_from, list_any}
+use Rattle.std.specs.Prelude.{ℕ, ◌+◌, List, [], ◌∷◌, ◌++◌, length, map, flat_map, filter_map, take, drop, Option, Some, None, Bool, nat_eq, codes}
+use Rattle.std.specs.List.{enumerate_from, list_any, slice_index_or}
 use Rattle.wasm_syntax.specs.declared.values.ValType.TheVariants.{I32, I64}
 use Rattle.wasm_syntax.specs.declared.signatures.FuncType.{FuncType}
 use Rattle.wasm_syntax.specs.declared.instructions.Instr.{Instr}
@@ -12,11 +12,12 @@ use Rattle.wasm_syntax.specs.declared.modules.Func.{Func}
 use Rattle.wasm_syntax.specs.declared.modules.Global.{Global}
 use Rattle.wasm_syntax.specs.declared.modules.Module.{Module}
 use Rattle.history_spec.specs.Projection.{Layout}
-use Rattle.replay_module_spec.specs.Functions.{start_type, group_type, original_type}
+use Rattle.replay_module_spec.specs.Functions.{start_type, group_type}
 use Rattle.replay_module_spec.specs.Fragments.{counter}
 use Rattle.replay_module_spec.specs.Merge.{constant_body}
 use Rattle.history_spec.specs.Code.{i32_value}
-use Rattle.guarded_module_spec.specs.Numbers.{Numbers, numbers_of, behind, start_place, begun, passed, checks}
+use Rattle.guarded_module_spec.specs.declared.numbers.Numbers.{Numbers}
+use Rattle.guarded_module_spec.specs.Numbers.{numbers_of, behind, start_place, begun, passed, checks}
 use Rattle.guarded_module_spec.specs.Fronts.{import_front, func_front}
 use Rattle.guarded_module_spec.specs.Functions.{start_func, digest_funcs, check_func, next_func, group_funcs}
 
@@ -47,26 +48,34 @@ redirected_instr n instr = instr
 abbrev pub redirected : Numbers → Func → Func
 redirected n func = record func { body = map (redirected_instr n) func.body }
 
--- an instruction calls the function
-abbrev pub calls : ℕ → Instr → Bool
-calls func (Call called) = nat_eq func called
-calls func instr = false
+-- the function that an instruction calls, if it is `call`
+abbrev pub called_func : Instr → Option ℕ
+called_func (Call func) = Some func
+called_func instr = None
+
+-- the functions that the bodies of functions call
+abbrev pub called_funcs : List Func → List ℕ
+called_funcs funcs = flat_map (λ (func : Func). filter_map called_func func.body) funcs
 
 -- some function of a list calls the function
 abbrev pub is_called : ℕ → List Func → Bool
-is_called func funcs = list_any (λ (f : Func). list_any (calls func) f.body) funcs
+is_called func funcs = list_any (nat_eq func) (called_funcs funcs)
 
 -- ---- all functions
 
--- the fronts of imports
-abbrev pub import_fronts : Module → Numbers → List Func → List Func
-import_fronts m n funcs =
-    map (λ (e : ℕ × Func). import_front n (original_type m e.1.ty) e.0 e.1.ty) (enumerate_from 0 funcs)
+-- the type of this index
+abbrev pub type_in : List FuncType → ℕ → FuncType
+type_in types ty = slice_index_or types ty start_type
+
+-- the fronts of imports, by the functions in their places
+abbrev pub import_fronts : List FuncType → Numbers → List Func → List Func
+import_fronts types n funcs =
+    map (λ (e : ℕ × Func). import_front n (type_in types e.1.ty) e.0 e.1.ty) (enumerate_from 0 funcs)
 
 -- the fronts of originals, the first of which has this number
-abbrev pub func_fronts : Module → Numbers → (outside : List Func) → (first : ℕ) → List Func → List Func
-func_fronts m n outside first funcs =
-    map (λ (e : ℕ × Func). func_front (is_called e.0 outside) n (original_type m e.1.ty) e.0 e.1.ty)
+abbrev pub func_fronts : List FuncType → Numbers → (outside : List Func) → (first : ℕ) → List Func → List Func
+func_fronts types n outside first funcs =
+    map (λ (e : ℕ × Func). func_front (is_called e.0 outside) n (type_in types e.1.ty) e.0 e.1.ty)
     (enumerate_from first funcs)
 
 -- the functions of a guarded module's own
@@ -79,11 +88,11 @@ own_funcs n entry words =
 -- ones; then those that were in the places of imports, the fronts of originals, and its own
 abbrev pub guarded_funcs : Module → Layout → (entry : ℕ) → List ℕ → List Func
 guarded_funcs m layout entry words =
-    import_fronts m (numbers_of m layout) (funcs_in_places layout m.funcs)
+    import_fronts m.types (numbers_of m layout) (funcs_in_places layout m.funcs)
     ++ (original_funcs layout m.funcs
     ++ (map (redirected (numbers_of m layout)) (appended_funcs layout m.funcs)
     ++ (map (redirected (numbers_of m layout)) (funcs_in_places layout m.funcs)
-    ++ (func_fronts m (numbers_of m layout) (outside_funcs layout m.funcs) layout.imports
+    ++ (func_fronts m.types (numbers_of m layout) (outside_funcs layout m.funcs) layout.imports
     (original_funcs layout m.funcs)
     ++ own_funcs (numbers_of m layout) entry words))))
 

@@ -3,16 +3,7 @@ use Rattle.std.specs.Prelude.{ℕ, ◌+◌, List, [], ◌∷◌, length, cond, n
 use Rattle.wasm_syntax.specs.declared.signatures.Limits.{Limits}
 use Rattle.wasm_syntax.specs.declared.modules.Module.{Module}
 use Rattle.history_spec.specs.Projection.{Layout}
-
--- the numbers of functions, types and globals of a replay module, of its imports, of the first function that is
--- appended, and of the functions that a guarded module has for the digest
-pub record Numbers : Type 0 where
-  pub funcs : ℕ
-  pub types : ℕ
-  pub globals : ℕ
-  pub imports : ℕ
-  pub past : ℕ
-  pub digests : ℕ
+use Rattle.guarded_module_spec.specs.declared.numbers.Numbers.{Numbers}
 
 -- one function for the digest of the memory, if there is a memory
 abbrev pub digest_count : List Limits → ℕ
