@@ -7,6 +7,7 @@ use Rattle.wasm_syntax.specs.declared.values.ValType.TheVariants.{I32, I64}
 use Rattle.wasm_syntax.specs.declared.instructions.Instr.{Instr}
 use Rattle.wasm_syntax.specs.declared.instructions.Instr.TheVariants.{Unreachable, Loop, If, End, BrIf, Return, Call, LocalGet, LocalSet, LocalTee, GlobalGet, GlobalSet, Load, MemorySize, Numeric}
 use Rattle.wasm_syntax.specs.declared.modules.Func.{Func}
+use Rattle.wasm_syntax.specs.declared.modules.Run.{Run}
 use Rattle.replay_module_spec.specs.declared.groups.TheConstants.{GROUP_CALLS}
 use Rattle.replay_module_spec.specs.Effects.{i32_const}
 use Rattle.replay_module_spec.specs.Dispatch.{dispatch, body_of}
@@ -47,16 +48,20 @@ digest_turn =
     ∷ LocalGet 1 ∷ Numeric I64_XOR ∷ i64_const DIGEST_ROTATION ∷ Numeric I64_ROTL
     ∷ i64_const DIGEST_FACTOR ∷ Numeric I64_MUL ∷ LocalSet 1 ∷ []
 
--- gives the digest of the memory: a loop from its last eight bytes to its first, if it has a page
+-- the locals: an address, and a digest
+abbrev pub digest_locals : List Run
+digest_locals = one_local I32 ∷ one_local I64 ∷ []
+
+-- a loop from the last eight bytes of the memory to its first, if it has a page
+abbrev pub digest_code : List Instr
+digest_code =
+    digest_begin
+    ++ If None ∷ Loop None
+    ∷ (digest_turn ++ LocalGet 0 ∷ BrIf 0 ∷ End ∷ End ∷ LocalGet 1 ∷ End ∷ [])
+
+-- gives the digest of the memory
 abbrev pub digest_func : Numbers → Func
-digest_func n =
-    record {
-      ty = word_type_place n;
-      locals = one_i32 ∷ one_local I64 ∷ [];
-      body = digest_begin
-          ++ If None ∷ Loop None
-          ∷ (digest_turn ++ LocalGet 0 ∷ BrIf 0 ∷ End ∷ End ∷ LocalGet 1 ∷ End ∷ []);
-    }
+digest_func n = record { ty = word_type_place n; locals = digest_locals; body = digest_code }
 
 -- the function of the digest, if there is a memory
 abbrev pub digest_funcs : (digests : ℕ) → Numbers → List Func
@@ -88,14 +93,14 @@ next_func n count =
 abbrev pub word_arm : ℕ → List Instr
 word_arm word = i64_const word ∷ Return ∷ []
 
+-- the body of the function of a group of words
+abbrev pub group_body : List ℕ → List Instr
+group_body words =
+    body_of (dispatch (LocalGet 0 ∷ i32_const GROUP_CALLS ∷ Numeric I32_REM_U ∷ []) (map word_arm words))
+
 -- the function of a group of words, which takes the number of a word
 abbrev pub group_func : Numbers → List ℕ → Func
-group_func n words =
-    record {
-      ty = group_type_place n;
-      locals = [];
-      body = body_of (dispatch (LocalGet 0 ∷ i32_const GROUP_CALLS ∷ Numeric I32_REM_U ∷ []) (map word_arm words));
-    }
+group_func n words = record { ty = group_type_place n; locals = []; body = group_body words }
 
 -- the functions of all groups
 abbrev pub group_funcs : Numbers → List ℕ → List Func

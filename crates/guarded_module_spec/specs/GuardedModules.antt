@@ -1,5 +1,5 @@
 -- The guarded module of a replay module: it compares the words of its run with given ones.
-use Rattle.std.specs.Prelude.{ℕ, ◌+◌, List, [], ◌∷◌, ◌++◌, length, map, flat_map, filter_map, take, drop, Option, Some, None, Bool, nat_eq, codes}
+use Rattle.std.specs.Prelude.{ℕ, ◌+◌, List, [], ◌∷◌, ◌++◌, length, map, flat_map, filter_map, take, drop, Option, Some, None, Bool, false, nat_eq, codes}
 use Rattle.std.specs.List.{enumerate_from, list_any, slice_index_or}
 use Rattle.wasm_syntax.specs.declared.values.ValType.TheVariants.{I32, I64}
 use Rattle.wasm_syntax.specs.declared.signatures.FuncType.{FuncType}
