@@ -1,0 +1,5 @@
+pub mod Executed
+pub mod Typed
+pub mod Trees
+pub mod Deliver
+pub mod Others
