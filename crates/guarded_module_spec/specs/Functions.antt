@@ -5,12 +5,13 @@ use Rattle.std.specs.List.{range_with_len}
 use Rattle.base.specs.declared.opcodes.TheConstants.{I32_ADD, I32_SUB, I32_SHL, I32_REM_U, I64_NE, I64_XOR, I64_ROTL, I64_MUL, I64_LOAD, I64_EXTEND_I32_U}
 use Rattle.wasm_syntax.specs.declared.values.ValType.TheVariants.{I32, I64}
 use Rattle.wasm_syntax.specs.declared.instructions.Instr.{Instr}
-use Rattle.wasm_syntax.specs.declared.instructions.Instr.TheVariants.{Unreachable, Loop, If, End, BrIf, Return, Call, LocalGet, LocalSet, LocalTee, GlobalGet, GlobalSet, Load, MemorySize, Numeric}
+use Rattle.wasm_syntax.specs.declared.instructions.Instr.TheVariants.{Unreachable, BrIf, Return, Call, LocalGet, LocalSet, LocalTee, GlobalGet, GlobalSet, Load, MemorySize, Numeric}
 use Rattle.wasm_syntax.specs.declared.modules.Func.{Func}
 use Rattle.wasm_syntax.specs.declared.modules.Run.{Run}
+use Rattle.wasm_syntax.specs.Nest.{Nest, Empty, Plain, InIf, InLoop}
 use Rattle.replay_module_spec.specs.declared.groups.TheConstants.{GROUP_CALLS}
 use Rattle.replay_module_spec.specs.Effects.{i32_const}
-use Rattle.replay_module_spec.specs.Dispatch.{dispatch, body_of}
+use Rattle.replay_module_spec.specs.Dispatch.{sequence, dispatch, body_of}
 use Rattle.replay_module_spec.specs.Functions.{group_count, import_nest, one_i32}
 use Rattle.guarded_module_spec.specs.declared.words.TheConstants.{DIGEST_FACTOR, DIGEST_ROTATION}
 use Rattle.guarded_module_spec.specs.Words.{end_word}
@@ -26,14 +27,15 @@ check_memory zero n = []
 check_memory (suc more) n =
     MemorySize ∷ Numeric I64_EXTEND_I32_U ∷ Call (check_place n) ∷ Call (digest_place n) ∷ Call (check_place n) ∷ []
 
--- the exported function: it calls the function that the replay module exports, and compares the words at the end
+-- the code of the exported function: it calls the function that the replay module exports, and compares the words at
+-- the end
+abbrev pub start_code : Numbers → (entry : ℕ) → List Instr
+start_code n entry = Call entry ∷ (check_memory n.digests n ++ check_number n end_word)
+
+-- the exported function
 abbrev pub start_func : Numbers → (entry : ℕ) → Func
 start_func n entry =
-    record {
-      ty = start_type_place n;
-      locals = [];
-      body = Call entry ∷ (check_memory n.digests n ++ (check_number n end_word ++ End ∷ []));
-    }
+    record { ty = start_type_place n; locals = []; body = body_of (sequence (start_code n entry) Empty) }
 
 -- ---- the digest
 
@@ -52,16 +54,17 @@ digest_turn =
 abbrev pub digest_locals : List Run
 digest_locals = one_local I32 ∷ one_local I64 ∷ []
 
--- a loop from the last eight bytes of the memory to its first, if it has a page
-abbrev pub digest_code : List Instr
-digest_code =
-    digest_begin
-    ++ If None ∷ Loop None
-    ∷ (digest_turn ++ LocalGet 0 ∷ BrIf 0 ∷ End ∷ End ∷ LocalGet 1 ∷ End ∷ [])
+-- a loop from the last eight bytes of the memory to its first
+abbrev pub digest_loop : Nest
+digest_loop = InLoop None (sequence (digest_turn ++ LocalGet 0 ∷ BrIf 0 ∷ []) Empty) Empty
+
+-- the loop, if the memory has a page, and then the digest
+abbrev pub digest_nest : Nest
+digest_nest = sequence digest_begin (InIf None digest_loop (Plain (LocalGet 1) Empty))
 
 -- gives the digest of the memory
 abbrev pub digest_func : Numbers → Func
-digest_func n = record { ty = word_type_place n; locals = digest_locals; body = digest_code }
+digest_func n = record { ty = word_type_place n; locals = digest_locals; body = body_of digest_nest }
 
 -- the function of the digest, if there is a memory
 abbrev pub digest_funcs : (digests : ℕ) → Numbers → List Func
@@ -70,15 +73,16 @@ digest_funcs (suc more) n = digest_func n ∷ []
 
 -- ---- words
 
--- takes a word and compares it with the next of the given words; a check that is passed is counted
+-- compares the word in the local with the next of the given words; a check that is passed is counted
+abbrev pub check_nest : Numbers → Nest
+check_nest n =
+    sequence (LocalGet 0 ∷ Call (next_place n) ∷ Numeric I64_NE ∷ [])
+    (InIf None (sequence (Unreachable ∷ []) Empty)
+    (sequence (GlobalGet (passed n) ∷ i32_const 1 ∷ Numeric I32_ADD ∷ GlobalSet (passed n) ∷ []) Empty))
+
+-- takes a word and compares it
 abbrev pub check_func : Numbers → Func
-check_func n =
-    record {
-      ty = check_type_place n;
-      locals = [];
-      body = LocalGet 0 ∷ Call (next_place n) ∷ Numeric I64_NE ∷ If None ∷ Unreachable ∷ End
-          ∷ GlobalGet (passed n) ∷ i32_const 1 ∷ Numeric I32_ADD ∷ GlobalSet (passed n) ∷ End ∷ [];
-    }
+check_func n = record { ty = check_type_place n; locals = []; body = body_of (check_nest n) }
 
 -- gives the next of the given words, as the function in an import's place finds what a call does; traps after the last
 abbrev pub next_func : Numbers → (count : ℕ) → Func
@@ -93,14 +97,13 @@ next_func n count =
 abbrev pub word_arm : ℕ → List Instr
 word_arm word = i64_const word ∷ Return ∷ []
 
--- the body of the function of a group of words
-abbrev pub group_body : List ℕ → List Instr
-group_body words =
-    body_of (dispatch (LocalGet 0 ∷ i32_const GROUP_CALLS ∷ Numeric I32_REM_U ∷ []) (map word_arm words))
+-- the words of a group, of which the local selects one
+abbrev pub group_nest : List ℕ → Nest
+group_nest words = dispatch (LocalGet 0 ∷ i32_const GROUP_CALLS ∷ Numeric I32_REM_U ∷ []) (map word_arm words)
 
 -- the function of a group of words, which takes the number of a word
 abbrev pub group_func : Numbers → List ℕ → Func
-group_func n words = record { ty = group_type_place n; locals = []; body = group_body words }
+group_func n words = record { ty = group_type_place n; locals = []; body = body_of (group_nest words) }
 
 -- the functions of all groups
 abbrev pub group_funcs : Numbers → List ℕ → List Func
