@@ -3,3 +3,5 @@ pub mod Typed
 pub mod Trees
 pub mod Deliver
 pub mod Others
+pub mod Indices
+pub mod TypedFronts
