@@ -25,11 +25,19 @@ types_of funcs = map (λ (f : Func). f.ty) funcs
 
 -- ---- lists
 
+abbrev empty : (X : Type 0) → List X
+empty X = []
+
+nothing_left : {X : Type 0} (count : ℕ) → drop count (empty X) ≡ []
+nothing_left zero = refl
+nothing_left (suc count) = refl
+
 pub drop_sum : {X : Type 0} (first second : ℕ) (xs : List X) → drop (first + second) xs ≡ drop second (drop first xs)
-drop_sum zero second xs = refl
-drop_sum (suc first) zero [] = refl
-drop_sum (suc first) (suc second) [] = refl
-drop_sum (suc first) second (x ∷ xs) = drop_sum first second xs
+drop_sum zero second xs = let same : 0 + second ≡ second = omega arith in ap (λ k. drop k xs) same
+drop_sum (suc first) second [] = nothing_left (suc first + second) ∙ sym (nothing_left second)
+drop_sum (suc first) second (x ∷ xs) =
+    let same : suc first + second ≡ suc (first + second) = omega arith in
+    ap (λ k. drop k (x ∷ xs)) same ∙ drop_sum first second xs
 
 regrouped : (a b c d e f : List ℕ) → a ++ (b ++ (c ++ (d ++ (e ++ f)))) ≡ (a ++ (b ++ c)) ++ ((d ++ e) ++ f)
 regrouped a b c d e f =
@@ -45,6 +53,9 @@ in_parts layout funcs =
     ∙ ap (λ l. funcs_in_places layout funcs ++ l) (take-append-drop layout.defined (drop layout.imports funcs))
     ∙ take-append-drop layout.imports funcs)
 
+pub types_length : (funcs : List Func) → length (types_of funcs) ≡ length funcs
+types_length funcs = length-map funcs (λ (f : Func). f.ty)
+
 -- ---- type indices are kept
 
 module _ (types : List FuncType) (n : Numbers) where
@@ -53,6 +64,12 @@ module _ (types : List FuncType) (n : Numbers) where
       ≡ types_of funcs
   import_fronts_types from [] = refl
   import_fronts_types from (f ∷ funcs) = ap (λ l. f.ty ∷ l) (import_fronts_types (from + 1) funcs)
+
+  pub import_fronts_long : (funcs : List Func) → length (import_fronts types n funcs) ≡ length funcs
+  import_fronts_long funcs =
+      sym (types_length (import_fronts types n funcs))
+      ∙ ap length (import_fronts_types 0 funcs)
+      ∙ types_length funcs
 
   front_type : (called : Bool) (type : FuncType) (func ty : ℕ) → (func_front called n type func ty).ty ≡ ty
   front_type true type func ty = refl
@@ -73,9 +90,6 @@ redirected_types n (f ∷ funcs) = ap (λ l. f.ty ∷ l) (redirected_types n fun
 joined_types : (first second : List Func) → types_of (first ++ second) ≡ types_of first ++ types_of second
 joined_types first second = map-append (λ (f : Func). f.ty) first second
 
-pub types_length : (funcs : List Func) → length (types_of funcs) ≡ length funcs
-types_length funcs = length-map funcs (λ (f : Func). f.ty)
-
 -- the type indices of all functions, from those of each part
 all_types : (fronts originals appended behind_places func_fronts own : List Func)
     → types_of (fronts ++ (originals ++ (appended ++ (behind_places ++ (func_fronts ++ own)))))
@@ -91,6 +105,10 @@ digests_long : (n : Numbers) (memories : List Limits)
     → length (digest_funcs (digest_count memories) n) ≡ digest_count memories
 digests_long n [] = refl
 digests_long n (memory ∷ more) = refl
+
+-- the type indices of the functions of a module without imports
+pub indices_of : (m : Module) → m.imports ≡ [] → func_indices m ≡ types_of m.funcs
+indices_of m alone = ap (λ imports. of_kind func_import imports ++ types_of m.funcs) alone
 
 -- ---- the guarded module
 
@@ -113,11 +131,11 @@ module _ (m : Module) (layout : Layout) (entry : ℕ) (words : List ℕ) where
   abbrev own : List Func
   own = own_funcs n entry words
 
-  -- the type indices of those functions that stand before others
-  abbrev fronted : List ℕ
+  -- the type indices of the functions that have fronts
+  abbrev pub fronted : List ℕ
   fronted = types_of in_places ++ types_of originals
 
-  own_parts : types_of m.funcs ≡ types_of in_places ++ (types_of originals ++ types_of appended)
+  pub own_parts : types_of m.funcs ≡ types_of in_places ++ (types_of originals ++ types_of appended)
   own_parts =
       ap types_of (in_parts layout m.funcs)
       ∙ joined_types in_places (originals ++ appended)
@@ -148,23 +166,20 @@ module _ (m : Module) (layout : Layout) (entry : ℕ) (words : List ℕ) where
       ∙ ap (λ l. l ++ (fronted ++ types_of own)) (sym own_parts)
 
   module _ (alone : m.imports ≡ []) (within : layout.imports + layout.defined ≤ length m.funcs) where
-    pub indices_of : func_indices m ≡ types_of m.funcs
-    indices_of = ap (λ imports. of_kind func_import imports ++ types_of m.funcs) alone
-
     pub indices_are : func_indices guarded ≡ types_of m.funcs ++ (fronted ++ types_of own)
     indices_are = ap (λ imports. of_kind func_import imports ++ types_of guarded.funcs) alone ∙ types_are
 
-    places_long : length in_places ≡ layout.imports
+    pub places_long : length in_places ≡ layout.imports
     places_long = let long = length-take layout.imports m.funcs in omega (arith, long, within)
 
-    originals_long : length originals ≡ layout.defined
+    pub originals_long : length originals ≡ layout.defined
     originals_long =
         let long = length-take layout.defined (drop layout.imports m.funcs) in
         let whole = length-append in_places (drop layout.imports m.funcs) in
         let all = ap length (take-append-drop layout.imports m.funcs) in
         let first = places_long in omega (arith, long, within, whole, all, first)
 
-    fronted_long : length fronted ≡ n.past
+    pub fronted_long : length fronted ≡ n.past
     fronted_long =
         let a = length-append (types_of in_places) (types_of originals) in
         let b = types_length in_places in
@@ -175,7 +190,7 @@ module _ (m : Module) (layout : Layout) (entry : ℕ) (words : List ℕ) where
     index_kept : (func ty : ℕ) → slice_get (func_indices m) func ≡ Some ty
         → slice_get (func_indices guarded) func ≡ Some ty
     index_kept func ty h =
-        let own_h : slice_get (types_of m.funcs) func ≡ Some ty = subst (λ l. slice_get l func ≡ Some ty) indices_of h in
+        let own_h : slice_get (types_of m.funcs) func ≡ Some ty = subst (λ l. slice_get l func ≡ Some ty) (indices_of m alone) h in
         ap (λ l. slice_get l func) indices_are
         ∙ get_front (types_of m.funcs) (fronted ++ types_of own) func
         (slice_get_within (types_of m.funcs) func ty own_h)
@@ -187,7 +202,7 @@ module _ (m : Module) (layout : Layout) (entry : ℕ) (words : List ℕ) where
         let long = fronted_long in
         let many = types_length m.funcs in
         let front : func < length fronted = omega (arith, low, long) in
-        let own_h : slice_get (types_of m.funcs) func ≡ Some ty = subst (λ l. slice_get l func ≡ Some ty) indices_of h in
+        let own_h : slice_get (types_of m.funcs) func ≡ Some ty = subst (λ l. slice_get l func ≡ Some ty) (indices_of m alone) h in
         ap (λ l. slice_get l (n.funcs + func)) indices_are
         ∙ get_after_by (types_of m.funcs) (fronted ++ types_of own) (n.funcs + func) func (omega (arith, many))
         ∙ get_front fronted (types_of own) func front
@@ -196,7 +211,7 @@ module _ (m : Module) (layout : Layout) (entry : ℕ) (words : List ℕ) where
         (append_assoc (types_of in_places) (types_of originals) (types_of appended) ∙ sym own_parts)
         ∙ own_h
 
-    type_kept : (t : ℕ) (ty : FuncType) → type_at m t ≡ Some ty → type_at guarded t ≡ Some ty
+    pub type_kept : (t : ℕ) (ty : FuncType) → type_at m t ≡ Some ty → type_at guarded t ≡ Some ty
     type_kept t ty h = get_front m.types own_types t (slice_get_within m.types t ty h) ∙ h
 
     pub func_kept : (func : ℕ) (ty : FuncType) → func_type m func ≡ Some ty → func_type guarded func ≡ Some ty
@@ -220,7 +235,7 @@ module _ (m : Module) (layout : Layout) (entry : ℕ) (words : List ℕ) where
 
     -- ---- functions of its own
 
-    own_type : (j k : ℕ) (ty : FuncType) → slice_get (types_of own) j ≡ Some (n.types + k) → slice_get own_types k ≡ Some ty
+    pub own_type : (j k : ℕ) (ty : FuncType) → slice_get (types_of own) j ≡ Some (n.types + k) → slice_get own_types k ≡ Some ty
         → func_type guarded (start_place n + j) ≡ Some ty
     own_type j k ty found is =
         let long = fronted_long in
@@ -245,7 +260,7 @@ module _ (m : Module) (layout : Layout) (entry : ℕ) (words : List ℕ) where
         ∙ get_after_by (types_of (start_func n entry ∷ digest_funcs n.digests n)) (types_of last) (n.digests + 1 + j) j
         (omega (arith, first, many))
 
-    own_last : (j k : ℕ) (ty : FuncType) → slice_get (types_of last) j ≡ Some (n.types + k)
+    pub own_last : (j k : ℕ) (ty : FuncType) → slice_get (types_of last) j ≡ Some (n.types + k)
         → slice_get own_types k ≡ Some ty → func_type guarded (start_place n + (n.digests + 1 + j)) ≡ Some ty
     own_last j k ty found is = own_type (n.digests + 1 + j) k ty (after_digest j ∙ found) is
 
@@ -264,7 +279,7 @@ module _ (m : Module) (layout : Layout) (entry : ℕ) (words : List ℕ) where
         by zero e = absurd (omega (arith, e))
         by (suc k) e = refl
 
-    groups_types : (numbers : List ℕ) (part : ℕ → List ℕ) (j : ℕ) → j < length numbers
+    pub groups_types : (numbers : List ℕ) (part : ℕ → List ℕ) (j : ℕ) → j < length numbers
         → slice_get (types_of (map (λ number. group_func n (part number)) numbers)) j ≡ Some (n.types + 3)
     groups_types [] part j below = absurd (omega (arith, below))
     groups_types (x ∷ numbers) part zero below = refl

@@ -5,3 +5,9 @@ pub mod Deliver
 pub mod Others
 pub mod Indices
 pub mod TypedFronts
+pub mod TypedOwn
+pub mod Known
+pub mod Contexts
+pub mod TypedAll
+pub mod ValidOutside
+pub mod Valid
