@@ -9,6 +9,7 @@ mod funcs;
 mod modules;
 mod numbers;
 mod own;
+mod parts;
 mod words;
 
 pub use base::NoMemory;

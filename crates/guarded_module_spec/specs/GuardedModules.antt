@@ -104,19 +104,25 @@ own_types =
     start_type ∷ record { params = I64 ∷ []; results = [] } ∷ record { params = []; results = I64 ∷ [] }
     ∷ group_type (I64 ∷ []) ∷ []
 
+-- the global that has the number of all checks
+abbrev pub checks_global : (count : ℕ) → Global
+checks_global count = record { ty = record { ty = I32; mutable = false }; init = constant_body (i32_value count) }
+
 -- the globals of its own: how many checks have begun, how many are passed, and how many there are
 abbrev pub own_globals : (count : ℕ) → List Global
-own_globals count =
-    counter ∷ counter
-    ∷ record { ty = record { ty = I32; mutable = false }; init = constant_body (i32_value count) } ∷ []
+own_globals count = counter ∷ counter ∷ checks_global count ∷ []
+
+-- the export of a global
+abbrev pub global_export : (name : List ℕ) → (global : ℕ) → Export
+global_export name global = record { name = name; kind = GlobalExport global }
 
 -- its exports: the function that runs it, and the three globals
 abbrev pub own_exports : Numbers → List Export
 own_exports n =
     record { name = codes "_start"; kind = FuncExport (start_place n) }
-    ∷ record { name = codes "begun"; kind = GlobalExport (begun n) }
-    ∷ record { name = codes "passed"; kind = GlobalExport (passed n) }
-    ∷ record { name = codes "checks"; kind = GlobalExport (checks n) } ∷ []
+    ∷ global_export (codes "begun") (begun n)
+    ∷ global_export (codes "passed") (passed n)
+    ∷ global_export (codes "checks") (checks n) ∷ []
 
 -- the custom section that marks a guarded module
 abbrev pub guard_section : Custom
