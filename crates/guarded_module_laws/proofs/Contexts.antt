@@ -55,7 +55,7 @@ module _ (m : Module) (layout : Layout) (entry : ℕ) (words : List ℕ) (guarda
   more_funcs =
       let own = ap length (indices_of m alone) in
       let all = ap length (indices_are m layout entry words alone within) in
-      let both = length-append (types_of m.funcs) _ in omega (arith, own, all, both)
+      let both = length-append (types_of m.funcs) (fronted m layout entry words ++ types_of (own_funcs n entry words)) in omega (arith, own, all, both)
 
   -- the function that the guarded module exports is there
   pub start_there : start_place n < length (func_indices guarded)

@@ -50,16 +50,17 @@ module _ (entry : ℕ) where
   body_elsewhere : (body : List Instr) → list_any (nat_eq entry) (filter_map referred_func body) ≡ false
       → AllByRecursion RefersElsewhere body
   body_elsewhere [] h = tt
-  body_elsewhere (i ∷ body) h = by (referred_func i) refl h
+  body_elsewhere (i ∷ body) h = by (referred_func i) refl (body_elsewhere body) h
     where
       by : (o : Option ℕ) → referred_func i ≡ o
+          → (list_any (nat_eq entry) (filter_map referred_func body) ≡ false → AllByRecursion RefersElsewhere body)
           → list_any (nat_eq entry) (cons_option o (filter_map referred_func body)) ≡ false
           → AllByRecursion RefersElsewhere (i ∷ body)
-      by None q h = ((λ x is. absurd (none-some x (sym q ∙ ap referred_func is))), body_elsewhere body h)
-      by (Some y) q h =
+      by None q later h = ((λ x is. absurd (none-some x (sym q ∙ ap referred_func is))), later h)
+      by (Some y) q later h =
           let parts = no_either (nat_eq entry y) (list_any (nat_eq entry) (filter_map referred_func body)) h in (
             (λ x is. subst (λ z. nat_eq entry z ≡ false) (same y x (sym q ∙ ap referred_func is)) parts.0),
-            body_elsewhere body parts.1,
+            later parts.1,
           )
         where
           same : (y x : ℕ) → Some y ≡ Some x → y ≡ x

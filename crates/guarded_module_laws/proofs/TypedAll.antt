@@ -170,7 +170,7 @@ module _ (m : Module) (layout : Layout) (entry : ℕ) (words : List ℕ) (valid 
   type_valid ty there =
       all_at IsFuncType m.types ty (own_type ty) valid.outside.types (type_is m layout entry words guardable ty there)
 
-  params_have : (f : Func) (ty : FuncType) → HaveTypes (body_context guarded ty f) 0 ty.params
+  params_have : (f : Func) (ty : FuncType) → HaveTypes (body_context guarded ty f) n checks 0 ty.params
   params_have f ty j t h =
       let same : 0 + j ≡ j = omega arith in
       ap (slice_get (ty.params ++ each_local f.locals)) same

@@ -1,9 +1,9 @@
 -- The typing of the functions of a guarded module's own, in contexts that have what they need.
 use Rattle.std.proofs.Common.{◌≡◌, ℕ, zero, suc, ◌+◌, ◌*◌, ◌^◌, ◌<◌, ◌≤◌, List, [], ◌∷◌, ◌++◌, length, map, reverse, Some, true, option_and_then, option_map, refl, ap, ◌∙◌, arith}
-use Rattle.std.specs.Prelude.{slice_get, cond, None}
+use Rattle.std.specs.Prelude.{slice_get, cond, drop, None}
 use Rattle.std.specs.List.{AllByRecursion}
 use Rattle.std.proofs.lemmas.Bool.Decides.{nat_tests}
-use Rattle.base.specs.declared.opcodes.TheConstants.{I32_ADD, I32_SUB, I32_SHL, I64_NE, I64_XOR, I64_ROTL, I64_MUL, I64_LOAD, I64_EXTEND_I32_U}
+use Rattle.base.specs.declared.opcodes.TheConstants.{I32_ADD, I32_REM_U, I32_SUB, I32_SHL, I64_NE, I64_XOR, I64_ROTL, I64_MUL, I64_LOAD, I64_EXTEND_I32_U}
 use Rattle.wasm_syntax.specs.declared.values.ValType.{ValType}
 use Rattle.wasm_syntax.specs.declared.values.ValType.TheVariants.{I32, I64}
 use Rattle.wasm_syntax.specs.declared.signatures.FuncType.{FuncType}
@@ -13,6 +13,7 @@ use Rattle.wasm_syntax.specs.declared.instructions.Instr.TheVariants.{Unreachabl
 use Rattle.wasm_syntax.specs.Nest.{Nest, Empty, Plain, InIf, InLoop}
 use Rattle.wasm_syntax.specs.Typing.{Context, IsTyped, Leaves, Moves, call_of, func_at, has_memory, if_true, inside, is_constant, set_of}
 use Rattle.history_spec.specs.Code.{i32_value}
+use Rattle.replay_module_spec.specs.declared.groups.TheConstants.{GROUP_CALLS}
 use Rattle.replay_module_spec.specs.Dispatch.{sequence}
 use Rattle.replay_module_spec.specs.Effects.{i32_const}
 use Rattle.replay_module_spec.specs.Functions.{start_type}
@@ -24,7 +25,7 @@ use Rattle.guarded_module_spec.specs.declared.words.TheConstants.{DIGEST_FACTOR,
 use Rattle.guarded_module_spec.specs.Numbers.{check_place, digest_place, next_place, passed}
 use Rattle.guarded_module_spec.specs.Words.{end_word}
 use Rattle.guarded_module_spec.specs.Fronts.{check_number, i64_const}
-use Rattle.guarded_module_spec.specs.Functions.{check_memory, check_nest, digest_loop, digest_nest, digest_turn, group_nest, start_code, word_arm}
+use Rattle.guarded_module_spec.specs.Functions.{check_memory, check_nest, digest_begin, digest_loop, digest_nest, digest_turn, group_nest, start_code, word_arm}
 use Rattle.guarded_module_laws.proofs.TypedFronts.{gives_word, takes_word, taken, number_checked, word_typed}
 
 -- ---- instructions in any context
@@ -72,7 +73,7 @@ module _ (ctx : Context) (n : Numbers) (checks : func_at ctx (check_place n) ≡
       → ((more : ℕ) → n.digests ≡ suc more → (has_memory ctx ≡ true) × (func_at ctx (digest_place n) ≡ Some gives_word))
       → IsTyped ctx (sequence (start_code n entry) Empty) [] []
   start_typed entry has_type memory =
-      moved ctx (Call entry) [] [] [] (sequence (check_memory n.digests n ++ _) Empty) []
+      moved ctx (Call entry) [] [] [] (sequence (check_memory n.digests n ++ check_number n end_word) Empty) []
       (ap (option_map call_of) has_type) (by n.digests memory)
     where
       by : (digests : ℕ)
@@ -100,7 +101,7 @@ module _ (ctx : Context) (n : Numbers) (gives : func_at ctx (next_place n) ≡ S
   pub check_typed : IsTyped ctx (check_nest n) [] []
   check_typed =
       let last = sequence (GlobalGet (passed n) ∷ i32_const 1 ∷ Numeric I32_ADD ∷ GlobalSet (passed n) ∷ []) Empty in
-      let branch = InIf _ (sequence (Unreachable ∷ []) Empty) last in
+      let branch = InIf None (sequence (Unreachable ∷ []) Empty) last in
       read ctx 0 I64 (sequence (Call (next_place n) ∷ Numeric I64_NE ∷ []) branch) [] [] word
       (moved ctx (Call (next_place n)) [] (I64 ∷ []) (I64 ∷ []) (Plain (Numeric I64_NE) branch) []
       (ap (option_map call_of) gives)
@@ -125,29 +126,32 @@ module _ (ctx : Context) (memory : has_memory ctx ≡ true) (address : slice_get
   turn_typed : (label : Context) → label.locals ≡ ctx.locals → has_memory label ≡ true → (code : List Instr)
       → IsTyped label (sequence code Empty) [] [] → IsTyped label (sequence (digest_turn ++ code) Empty) [] []
   turn_typed label locals has code later =
+      let past : ℕ → Nest = λ count. sequence (drop count digest_turn ++ code) Empty in
       let first = ap (λ l. slice_get l 0) locals in
       let second = ap (λ l. slice_get l 1) locals in
-      read label 0 I32 _ [] [] (first ∙ address)
-      (i32_pushed label 8 _ (I32 ∷ []) [] (omega arith)
-      (moved label (Numeric I32_SUB) (I32 ∷ I32 ∷ []) (I32 ∷ []) [] _ [] refl
-      (kept label 0 I32 _ [] [] (first ∙ address)
-      (moved label (Load (record { op = I64_LOAD; align = 3; offset = 0 })) (I32 ∷ []) (I64 ∷ []) [] _ []
+      read label 0 I32 (past 1) [] [] (first ∙ address)
+      (i32_pushed label 8 (past 2) (I32 ∷ []) [] (omega arith)
+      (moved label (Numeric I32_SUB) (I32 ∷ I32 ∷ []) (I32 ∷ []) [] (past 3) [] refl
+      (kept label 0 I32 (past 4) [] [] (first ∙ address)
+      (moved label (Load (record { op = I64_LOAD; align = 3; offset = 0 })) (I32 ∷ []) (I64 ∷ []) [] (past 5) []
       (ap (λ b. cond b (Some (Moves (I32 ∷ []) (I64 ∷ []))) None) has)
-      (read label 1 I64 _ (I64 ∷ []) [] (second ∙ digest)
-      (moved label (Numeric I64_XOR) (I64 ∷ I64 ∷ []) (I64 ∷ []) [] _ [] refl
-      (i64_pushed label DIGEST_ROTATION _ (I64 ∷ []) [] (omega arith)
-      (moved label (Numeric I64_ROTL) (I64 ∷ I64 ∷ []) (I64 ∷ []) [] _ [] refl
-      (i64_pushed label DIGEST_FACTOR _ (I64 ∷ []) [] (omega arith)
-      (moved label (Numeric I64_MUL) (I64 ∷ I64 ∷ []) (I64 ∷ []) [] _ [] refl
+      (read label 1 I64 (past 6) (I64 ∷ []) [] (second ∙ digest)
+      (moved label (Numeric I64_XOR) (I64 ∷ I64 ∷ []) (I64 ∷ []) [] (past 7) [] refl
+      (i64_pushed label DIGEST_ROTATION (past 8) (I64 ∷ []) [] (omega arith)
+      (moved label (Numeric I64_ROTL) (I64 ∷ I64 ∷ []) (I64 ∷ []) [] (past 9) [] refl
+      (i64_pushed label DIGEST_FACTOR (past 10) (I64 ∷ []) [] (omega arith)
+      (moved label (Numeric I64_MUL) (I64 ∷ I64 ∷ []) (I64 ∷ []) [] (past 11) [] refl
       (written label 1 I64 (sequence code Empty) [] [] (second ∙ digest) later)))))))))))
 
   pub digest_typed : IsTyped ctx digest_nest [] (I64 ∷ [])
   digest_typed =
       let loop = inside [] (inside [] ctx) in
-      moved ctx MemorySize [] (I32 ∷ []) [] _ (I64 ∷ []) (ap (λ b. if_true b (Moves [] (I32 ∷ []))) memory)
-      (i32_pushed ctx 16 _ (I32 ∷ []) (I64 ∷ []) (omega arith)
-      (moved ctx (Numeric I32_SHL) (I32 ∷ I32 ∷ []) (I32 ∷ []) [] _ (I64 ∷ []) refl
-      (kept ctx 0 I32 (InIf None digest_loop (Plain (LocalGet 1) Empty)) [] (I64 ∷ []) address
+      let branch : Nest = InIf None digest_loop (Plain (LocalGet 1) Empty) in
+      let past : ℕ → Nest = λ count. sequence (drop count digest_begin) branch in
+      moved ctx MemorySize [] (I32 ∷ []) [] (past 1) (I64 ∷ []) (ap (λ b. if_true b (Moves [] (I32 ∷ []))) memory)
+      (i32_pushed ctx 16 (past 2) (I32 ∷ []) (I64 ∷ []) (omega arith)
+      (moved ctx (Numeric I32_SHL) (I32 ∷ I32 ∷ []) (I32 ∷ []) [] (past 3) (I64 ∷ []) refl
+      (kept ctx 0 I32 branch [] (I64 ∷ []) address
       ([],
       refl,
       refl,
@@ -175,5 +179,5 @@ module _ (ctx : Context) (given : ctx.results ≡ I64 ∷ []) where
   pub group_typed : (words : List ℕ) (after : List ValType) → AllByRecursion (λ word. word < 2 ^ 64) words
       → slice_get ctx.locals 0 ≡ Some I32 → IsTyped ctx (group_nest words) [] after
   group_typed words after small number =
-      dispatch_typed ctx _ (map word_arm words) ctx.labels after
+      dispatch_typed ctx (LocalGet 0 ∷ i32_const GROUP_CALLS ∷ Numeric I32_REM_U ∷ []) (map word_arm words) ctx.labels after
       (selects_call ctx (I64 ∷ []) given 0 number) (word_arms_typed words small)
