@@ -1,6 +1,7 @@
 // The function that gives the digest of the memory.
 
-ghost use Rattle.std.specs.Prelude.{◌≡◌, [], ◌∷◌, ◌++◌, IfOk, OnOk, suc, zero};
+ghost use Rattle.std.specs.Prelude.{◌≡◌, ◌++◌, IfOk, OnOk};
+ghost use Rattle.replay_module_spec.specs.Dispatch.{body_of};
 ghost use Rattle.guarded_module_spec.specs.Functions as spec;
 ghost use Rattle.guard_maker.specs.Bounds.{HasRoom};
 
@@ -10,7 +11,7 @@ use base::opcodes::{I32_SHL, I32_SUB, I64_LOAD, I64_MUL, I64_ROTL, I64_XOR};
 use guarded_module_spec::{DIGEST_FACTOR, DIGEST_ROTATION, Numbers};
 use replay_gen::i32_const;
 use std::alloc::Global;
-use wasm_syntax::{Func, Instr, List, MemArg, Runs, ValType};
+use wasm_syntax::{Body, Func, Instr, List, MemArg, Runs, ValType};
 
 /// The number of instructions of the code before the loop.
 const IN_BEGIN: usize = 4;
@@ -68,8 +69,8 @@ fn digest_locals(alloc: Global) -> Result<Runs, NoMemory>
 }
 
 /// The body of the function.
-fn digest_code(alloc: Global) -> Result<Vec<Instr>, NoMemory>
-    ensures { IfOk result (λ code. code.items ≡ spec.digest_code) }
+fn digest_body(alloc: Global) -> Result<Body, NoMemory>
+    ensures { IfOk result (λ body. body ≡ body_of spec.digest_nest) }
 {
     let mut code = Vec::new(alloc);
     push_begin(&mut code)?;
@@ -83,7 +84,7 @@ fn digest_code(alloc: Global) -> Result<Vec<Instr>, NoMemory>
     code.push_reserved(Instr::End);
     code.push_reserved(Instr::LocalGet(1));
     code.push_reserved(Instr::End);
-    Ok(code)
+    Ok(List::from_vec(code))
 }
 
 /// The function that gives the digest of the memory.
@@ -91,12 +92,12 @@ fn digest_func(alloc: Global, n: Numbers) -> Result<Func, NoMemory>
     requires { HasRoom n }
     ensures { IfOk result (λ func. func ≡ spec.digest_func n) }
 {
-    let code = digest_code(alloc)?;
+    let body = digest_body(alloc)?;
     let locals = digest_locals(alloc)?;
     Ok(Func {
         ty: n.types + 2,
         locals,
-        body: List::from_vec(code),
+        body,
     })
 }
 

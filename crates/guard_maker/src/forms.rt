@@ -18,18 +18,28 @@ fn is_indirect(instr: &Instr) -> bool
     matches!(instr, Instr::CallIndirect(_))
 }
 
-/// Whether a function of a list calls through the table.
-fn has_indirect(funcs: &[Func]) -> bool
-    ensures { result ≡ has_instr is_indirect funcs.now }
-{
-    funcs.iter().any(|func| body_has_indirect(func.body.as_slice()))
-}
-
 /// Whether a body has a call through the table.
 fn body_has_indirect(body: &[Instr]) -> bool
     ensures { result ≡ list_any is_indirect body.now }
 {
-    body.iter().any(|instr| is_indirect(instr))
+    'instrs: for instr in body {
+        if is_indirect(instr) {
+            return true;
+        }
+    }
+    false
+}
+
+/// Whether a function of a list calls through the table.
+fn has_indirect(funcs: &[Func]) -> bool
+    ensures { result ≡ has_instr is_indirect funcs.now }
+{
+    'funcs: for func in funcs {
+        if body_has_indirect(func.body.as_slice()) {
+            return true;
+        }
+    }
+    false
 }
 
 /// Whether an instruction refers to the function.

@@ -3,6 +3,8 @@
 ghost use Rattle.std.specs.Prelude.{◌≡◌, [], ◌∷◌, ◌++◌, ◌+◌, ◌<◌, ◌^◌, IfOk, OnOk, length, map, true};
 ghost use Rattle.wasm_syntax.specs.declared.values.ValType.{ValType as Ty};
 ghost use Rattle.wasm_syntax.specs.declared.instructions.Instr.TheVariants.{End, LocalSet, Unreachable};
+ghost use Rattle.wasm_syntax.specs.Nest.{Empty};
+ghost use Rattle.replay_module_spec.specs.Dispatch.{body_of, sequence};
 ghost use Rattle.guarded_module_spec.specs.Fronts as spec;
 ghost use Rattle.guard_maker.specs.Bounds.{HasRoom};
 
@@ -11,7 +13,7 @@ use base::NoMemory;
 use base::opcodes::{I32_REINTERPRET_F32, I64_EXTEND_I32_U, I64_REINTERPRET_F64};
 use guarded_module_spec::Numbers;
 use std::alloc::Global;
-use wasm_syntax::{Func, FuncType, Instr, List, Run, Runs, Val, ValType};
+use wasm_syntax::{Body, Func, FuncType, Instr, List, Run, Runs, Val, ValType};
 
 /// Appends code that makes the value on the stack a word.
 fn push_to_word(code: &mut Vec<Instr>, ty: ValType) -> Result<(), NoMemory>
@@ -111,6 +113,42 @@ fn push_keep(code: &mut Vec<Instr>, local: u32, results: &[ValType]) -> Result<(
     Ok(())
 }
 
+/// Appends the code of the front of an import with this type.
+fn push_import_front(
+    code: &mut Vec<Instr>,
+    n: Numbers,
+    ty: &FuncType,
+    import: u32,
+) -> Result<(), NoMemory>
+    requires room { HasRoom n }
+    requires few { length ty.now.params + 1 < 2 ^ 32 }
+    ensures { OnOk result (code.new.items ≡ code.old.items ++ spec.import_front_code n ty.now import) }
+{
+    let params = ty.params.as_slice();
+    push_check_number(code, n, u64::from(import))?;
+    push_check_locals(code, n, 0, params)?;
+    push_local_gets(code, 0, params.len() as u32)?;
+    code.push(Instr::Call(behind(n, import)))?;
+    Ok(())
+}
+
+/// The body of the front of an import with this type.
+fn import_front_body(
+    alloc: Global,
+    n: Numbers,
+    ty: &FuncType,
+    import: u32,
+) -> Result<Body, NoMemory>
+    requires room { HasRoom n }
+    requires few { length ty.now.params + 1 < 2 ^ 32 }
+    ensures { IfOk result (λ body. body ≡ body_of (sequence (spec.import_front_code n ty.now import) Empty)) }
+{
+    let mut code = Vec::new(alloc);
+    push_import_front(&mut code, n, ty, import)?;
+    code.push(Instr::End)?;
+    Ok(List::from_vec(code))
+}
+
 /// The front of an import with this type, whose index is `place`.
 pub(crate) fn import_front(
     alloc: Global,
@@ -123,22 +161,16 @@ pub(crate) fn import_front(
     requires few { length ty.now.params + 1 < 2 ^ 32 }
     ensures { IfOk result (λ func. func ≡ spec.import_front n ty.now import place) }
 {
-    let params = ty.params.as_slice();
-    let mut code = Vec::new(alloc);
-    push_check_number(&mut code, n, u64::from(import))?;
-    push_check_locals(&mut code, n, 0, params)?;
-    push_local_gets(&mut code, 0, params.len() as u32)?;
-    code.push(Instr::Call(behind(n, import)))?;
-    code.push(Instr::End)?;
+    let body = import_front_body(alloc, n, ty, import)?;
     Ok(Func {
         ty: place,
         locals: List::new(alloc),
-        body: List::from_vec(code),
+        body,
     })
 }
 
-/// Appends the body of the front of an original with these parameters and results.
-fn push_front(
+/// Appends the code of the front of an original with this type.
+fn push_func_front(
     code: &mut Vec<Instr>,
     n: Numbers,
     ty: &FuncType,
@@ -147,7 +179,7 @@ fn push_front(
     requires room { HasRoom n }
     requires few { length ty.now.params + 1 < 2 ^ 32 }
     requires one { length ty.now.results < 2 }
-    ensures { OnOk result (code.new.items ≡ code.old.items ++ spec.front_body n ty.now func) }
+    ensures { OnOk result (code.new.items ≡ code.old.items ++ spec.func_front_code n ty.now func) }
 {
     let count = ty.params.as_slice().len() as u32;
     let results = ty.results.as_slice();
@@ -156,9 +188,7 @@ fn push_front(
     push_keep(code, count, results)?;
     push_check_number(code, n, u64::from(func))?;
     push_check_locals(code, n, count, results)?;
-    push_local_gets(code, count, results.len() as u32)?;
-    code.push(Instr::End)?;
-    Ok(())
+    push_local_gets(code, count, results.len() as u32)
 }
 
 /// A local of each of these types.
@@ -179,7 +209,25 @@ pub(crate) fn one_local(ty: ValType) -> Run
     Run { count: 1, ty }
 }
 
-/// The front of an original with this type, whose index is `place`.
+/// The body of the front of an original with this type.
+fn func_front_body(
+    alloc: Global,
+    n: Numbers,
+    ty: &FuncType,
+    func: u32,
+) -> Result<Body, NoMemory>
+    requires room { HasRoom n }
+    requires few { length ty.now.params + 1 < 2 ^ 32 }
+    requires one { length ty.now.results < 2 }
+    ensures { IfOk result (λ body. body ≡ body_of (sequence (spec.func_front_code n ty.now func) Empty)) }
+{
+    let mut code = Vec::new(alloc);
+    push_func_front(&mut code, n, ty, func)?;
+    code.push(Instr::End)?;
+    Ok(List::from_vec(code))
+}
+
+/// The front of an original with this type, whose index is `place`, if a function outside calls it.
 fn called_front(
     alloc: Global,
     n: Numbers,
@@ -192,13 +240,12 @@ fn called_front(
     requires one { length ty.now.results < 2 }
     ensures { IfOk result (λ front. front ≡ spec.func_front true n ty.now func place) }
 {
-    let mut code = Vec::new(alloc);
-    push_front(&mut code, n, ty, func)?;
+    let body = func_front_body(alloc, n, ty, func)?;
     let locals = locals_of(alloc, ty.results.as_slice())?;
     Ok(Func {
         ty: place,
         locals,
-        body: List::from_vec(code),
+        body,
     })
 }
 

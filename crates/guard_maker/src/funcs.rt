@@ -1,13 +1,11 @@
 // All functions of a guarded module.
 
-ghost use Rattle.std.specs.Prelude.{◌≡◌, ℕ, [], ◌∷◌, ◌++◌, ◌+◌, ◌<◌, ◌≤◌, ◌^◌, IfOk, OnOk, drop, length, map, take};
+ghost use Rattle.std.specs.Prelude.{◌≡◌, ◌++◌, ◌+◌, ◌<◌, ◌≤◌, ◌^◌, IfOk, OnOk, drop, length, map, take};
 ghost use Rattle.replay_module_spec.specs.Functions.{group_count, start_type};
-ghost use Rattle.wasm_syntax.specs.declared.modules.Func.{Func as Function};
-ghost use Rattle.module_index.specs.Marks.{AreMarks};
 ghost use Rattle.guarded_module_spec.specs.Numbers.{first_group};
 ghost use Rattle.guarded_module_spec.specs.GuardedModules as spec;
 ghost use Rattle.guard_maker.specs.Bounds.{HasRoom, HasSmallTypes};
-ghost use Rattle.guard_maker.specs.Parts.{guarded_funcs_of};
+ghost use Rattle.guard_maker.specs.Parts.{guarded_funcs_of, marked_fronts};
 
 use crate::calls::{called_marks, push_redirected};
 use crate::digests::push_digest;
@@ -69,9 +67,13 @@ fn push_import_fronts(
     ensures { OnOk result (list.new.items ≡ list.old.items ++ spec.import_fronts types.now n funcs.now) }
 {
     let other = start_type(alloc);
-    'fronts: for import in 0..funcs.len() {
-        let place = funcs[import].ty;
-        list.push(import_front(alloc, n, type_in(types, &other, place), import as u32, place)?)?;
+    let mut import = 0;
+    let mut funcs = funcs;
+    'fronts: while let Some((func, more)) = funcs.split_first() {
+        let ty = type_in(types, &other, func.ty);
+        list.push(import_front(alloc, n, ty, import, func.ty)?)?;
+        import += 1;
+        funcs = more;
     }
     Ok(())
 }
@@ -86,7 +88,7 @@ fn start_type(alloc: Global) -> FuncType
     }
 }
 
-/// Appends the fronts of originals, the first of which has the number `first`.
+/// Appends the fronts of originals, the first of which has the number `first`; marked ones are called from outside.
 fn push_func_fronts(
     alloc: Global,
     list: &mut Vec<Func>,
@@ -100,15 +102,18 @@ fn push_func_fronts(
     requires small { HasSmallTypes types.now }
     requires few { first + length funcs.now ≤ length marks.now }
     requires marks { length marks.now < 2 ^ 32 }
-    ensures { (outside : List Function) → AreMarks marks.now (length marks.now) (spec.called_funcs outside)
-        → OnOk result (list.new.items ≡ list.old.items ++ spec.func_fronts types.now n outside first funcs.now) }
+    ensures { OnOk result (list.new.items
+        ≡ list.old.items ++ marked_fronts types.now n marks.now first funcs.now) }
 {
     let other = start_type(alloc);
-    'fronts: for place in 0..funcs.len() {
-        let ty = funcs[place].ty;
-        let func = first + place as u32;
-        let called = marks[func as usize];
-        list.push(func_front(alloc, called, n, type_in(types, &other, ty), func, ty)?)?;
+    let mut number = first;
+    let mut funcs = funcs;
+    'fronts: while let Some((func, more)) = funcs.split_first() {
+        let called = marks[number as usize];
+        let ty = type_in(types, &other, func.ty);
+        list.push(func_front(alloc, called, n, ty, number, func.ty)?)?;
+        number += 1;
+        funcs = more;
     }
     Ok(())
 }

@@ -1,16 +1,16 @@
 // The guarded module of a replay module.
 
-ghost use Rattle.std.specs.Prelude.{◌≡◌, ◌∷◌, [], ◌++◌, ◌<◌, ◌^◌, IfOk, OnOk, length};
-ghost use Rattle.wasm_syntax.specs.Validity.{IsValid};
+ghost use Rattle.std.specs.Prelude.{◌≡◌, ◌+◌, ◌<◌, ◌≤◌, ◌^◌, IfOk, length};
+ghost use Rattle.replay_module_spec.specs.Functions.{group_count};
 ghost use Rattle.replay_form.specs.Sides.{as_layout};
 ghost use Rattle.guarded_module_spec.specs.Numbers as numbers;
 ghost use Rattle.guarded_module_spec.specs.GuardedModules as spec;
 ghost use Rattle.guarded_module_spec.specs.Forms.{IsGuardable};
-ghost use Rattle.guard_maker.specs.Bounds.{FitsNumbers, HasRoom};
-ghost use Rattle.guard_maker.specs.Modules.{guarded_code, module_of_parts};
+ghost use Rattle.guard_maker.specs.Bounds.{FitsNumbers, HasRoom, HasSmallTypes};
+ghost use Rattle.guard_maker.specs.Modules.{code_of, module_of_parts, with_own_parts};
 
 use crate::funcs::{guarded_funcs, sides_of};
-use crate::numbers::{numbers_of, start_place};
+use crate::numbers::numbers_of;
 use crate::parts::{own_exports, with_own_globals, with_own_types, with_section};
 use base::NoMemory;
 use guarded_module_laws::guarded_modules_are_valid;
@@ -18,8 +18,8 @@ use guarded_module_spec::Numbers;
 use replay_form::Layout;
 use std::alloc::Global;
 use wasm_syntax::{
-    Customs, DataSegs, ElemSegs, Exports, FuncTypes, Funcs, Globals, Imports, LimitsList, List,
-    Module,
+    Customs, DataSegs, ElemSegs, Exports, Func, FuncTypes, Funcs, Globals, Imports, LimitsList,
+    List, Module,
 };
 use wasm_validate::Checked;
 
@@ -89,7 +89,12 @@ fn parts_of(module: Module) -> (Code, Kept)
     ensures funcs { result.0.funcs ≡ «module».funcs }
     ensures globals { result.0.globals ≡ «module».globals }
     ensures customs { result.0.customs ≡ «module».customs }
-    ensures kept { (exports : _) → module_of_parts result.0 result.1 exports ≡ record «module» { exports = exports } }
+    ensures imports { result.1.imports ≡ «module».imports }
+    ensures tables { result.1.tables ≡ «module».tables }
+    ensures memories { result.1.memories ≡ «module».memories }
+    ensures start { result.1.start ≡ «module».start }
+    ensures elems { result.1.elems ≡ «module».elems }
+    ensures datas { result.1.datas ≡ «module».datas }
 {
     let Module {
         types,
@@ -132,7 +137,13 @@ fn guarded_code(
     words: &[u64],
 ) -> Result<Code, NoMemory>
     requires room { HasRoom n }
-    ensures { IfOk result (λ made. made ≡ guarded_code code n (as_layout layout) entry words.now) }
+    requires small { HasSmallTypes code.types }
+    requires within { layout.imports + layout.defined ≤ length code.funcs }
+    requires imports { n.imports ≡ layout.imports }
+    requires past { n.past ≡ layout.imports + layout.defined }
+    requires few { numbers.first_group n + group_count (length words.now) < 2 ^ 32 }
+    requires short { length words.now < 2 ^ 32 }
+    ensures { IfOk result (λ made. made ≡ code_of code n (as_layout layout) entry words.now) }
 {
     let Code {
         types,
@@ -154,6 +165,8 @@ fn with_own_parts(
     customs: Customs,
     words: usize,
 ) -> Result<Code, NoMemory>
+    requires { words < 2 ^ 32 }
+    ensures { IfOk result (λ made. made ≡ with_own_parts types funcs.items globals customs words) }
 {
     let types = with_own_types(alloc, types)?;
     let globals = with_own_globals(alloc, globals, words)?;

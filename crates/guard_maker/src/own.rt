@@ -1,6 +1,8 @@
 // The functions that run a guarded module and compare a word.
 
-ghost use Rattle.std.specs.Prelude.{◌≡◌, [], ◌∷◌, ◌++◌, IfOk, OnOk};
+ghost use Rattle.std.specs.Prelude.{◌≡◌, ◌++◌, IfOk, OnOk};
+ghost use Rattle.wasm_syntax.specs.Nest.{Empty};
+ghost use Rattle.replay_module_spec.specs.Dispatch.{body_of, sequence};
 ghost use Rattle.guarded_module_spec.specs.Functions as spec;
 ghost use Rattle.guard_maker.specs.Bounds.{HasRoom};
 
@@ -11,7 +13,7 @@ use base::opcodes::{I32_ADD, I64_EXTEND_I32_U, I64_NE};
 use guarded_module_spec::Numbers;
 use replay_gen::i32_const;
 use std::alloc::Global;
-use wasm_syntax::{Func, Instr, List};
+use wasm_syntax::{Body, Func, Instr, List};
 
 /// The number of instructions that compare the size of the memory and its digest.
 const IN_MEMORY: usize = 5;
@@ -39,27 +41,36 @@ fn push_check_memory(code: &mut Vec<Instr>, n: Numbers) -> Result<(), NoMemory>
     Ok(())
 }
 
-/// The exported function, which calls the function that the replay module exports.
-pub(crate) fn start_func(alloc: Global, n: Numbers, entry: u32) -> Result<Func, NoMemory>
+/// The body of the exported function.
+fn start_body(alloc: Global, n: Numbers, entry: u32) -> Result<Body, NoMemory>
     requires { HasRoom n }
-    ensures { IfOk result (λ func. func ≡ spec.start_func n entry) }
+    ensures { IfOk result (λ body. body ≡ body_of (sequence (spec.start_code n entry) Empty)) }
 {
     let mut code = Vec::new(alloc);
     code.push(Instr::Call(entry))?;
     push_check_memory(&mut code, n)?;
     push_check_number(&mut code, n, END_WORD)?;
     code.push(Instr::End)?;
+    Ok(List::from_vec(code))
+}
+
+/// The exported function, which calls the function that the replay module exports.
+pub(crate) fn start_func(alloc: Global, n: Numbers, entry: u32) -> Result<Func, NoMemory>
+    requires { HasRoom n }
+    ensures { IfOk result (λ func. func ≡ spec.start_func n entry) }
+{
+    let body = start_body(alloc, n, entry)?;
     Ok(Func {
         ty: n.types,
         locals: List::new(alloc),
-        body: List::from_vec(code),
+        body,
     })
 }
 
-/// The function that takes a word and compares it.
-pub(crate) fn check_func(alloc: Global, n: Numbers) -> Result<Func, NoMemory>
+/// The body of the function that takes a word and compares it.
+fn check_body(alloc: Global, n: Numbers) -> Result<Body, NoMemory>
     requires { HasRoom n }
-    ensures { IfOk result (λ func. func ≡ spec.check_func n) }
+    ensures { IfOk result (λ body. body ≡ body_of (spec.check_nest n)) }
 {
     let mut code = Vec::with_capacity(alloc, IN_CHECK)?;
     code.push_reserved(Instr::LocalGet(0));
@@ -73,9 +84,18 @@ pub(crate) fn check_func(alloc: Global, n: Numbers) -> Result<Func, NoMemory>
     code.push_reserved(Instr::Numeric(I32_ADD));
     code.push_reserved(Instr::GlobalSet(n.globals + 1));
     code.push_reserved(Instr::End);
+    Ok(List::from_vec(code))
+}
+
+/// The function that takes a word and compares it.
+pub(crate) fn check_func(alloc: Global, n: Numbers) -> Result<Func, NoMemory>
+    requires { HasRoom n }
+    ensures { IfOk result (λ func. func ≡ spec.check_func n) }
+{
+    let body = check_body(alloc, n)?;
     Ok(Func {
         ty: n.types + 1,
         locals: List::new(alloc),
-        body: List::from_vec(code),
+        body,
     })
 }

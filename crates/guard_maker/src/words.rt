@@ -1,7 +1,8 @@
 // The functions that give the words, as those of a replay module find what a call of an import does.
 
-ghost use Rattle.std.specs.Prelude.{◌≡◌, [], ◌∷◌, ◌++◌, ◌+◌, ◌<◌, ◌≤◌, ◌^◌, IfOk, OnOk, flat_map, length, map};
+ghost use Rattle.std.specs.Prelude.{◌≡◌, ◌++◌, ◌+◌, ◌<◌, ◌^◌, IfOk, OnOk, flat_map, length, map};
 ghost use Rattle.replay_module_spec.specs.Functions.{group_count};
+ghost use Rattle.replay_module_spec.specs.Dispatch.{body_of};
 ghost use Rattle.replay_gen.specs.Pieces.{ended};
 ghost use Rattle.guarded_module_spec.specs.Functions as spec;
 ghost use Rattle.guarded_module_spec.specs.Numbers.{first_group};
@@ -60,7 +61,7 @@ fn push_word_arms(code: &mut Vec<Instr>, words: &[u64]) -> Result<(), NoMemory>
 /// The body of the function of a group of words.
 fn group_body(alloc: Global, words: &[u64]) -> Result<Body, NoMemory>
     requires { length words.now < 2 ^ 32 }
-    ensures { IfOk result (λ body. body ≡ spec.group_body words.now) }
+    ensures { IfOk result (λ body. body ≡ body_of (spec.group_nest words.now)) }
 {
     let mut code = Vec::new(alloc);
     push_dispatch_start(alloc, &mut code, 0, I32_REM_U, words.len() as u32)?;

@@ -1,7 +1,7 @@
 -- A guarded module is valid but for the bodies of its functions.
 use Rattle.std.proofs.Common.{◌≡◌, ℕ, zero, suc, ◌+◌, ◌^◌, ◌<◌, ◌≤◌, List, [], ◌∷◌, ◌++◌, length, map, Option, Some, None, Bool, true, false, slice_get, option_and_then, refl, sym, ap, ◌∙◌, subst, arith, length-append}
 use Rattle.std.specs.Prelude.{All, IsTrue, IfSome, cond, take, drop, ◌*◌, ◌≢◌}
-use Rattle.std.specs.List.{AllByRecursion, AllPairs, enumerate_from, range_with_len}
+use Rattle.std.specs.List.{AllByRecursion, AllPairs, enumerate_from, range_with_len, slice_index_or}
 use Rattle.std.proofs.lemmas.List.{length-map}
 use Rattle.std.proofs.lemmas.List.Elements.{All-append, All-cons, All-drop, All-from_recursion, All-map, All-nil, All-take, All-weaker, recursion_from_All}
 use Rattle.std.proofs.lemmas.List.Kept.{AllPairs-cons}
@@ -18,11 +18,12 @@ use Rattle.wasm_syntax.specs.declared.modules.ElemSeg.TheVariants.{Active, Decla
 use Rattle.wasm_syntax.specs.declared.modules.Export.{Export}
 use Rattle.wasm_syntax.specs.declared.modules.Func.{Func}
 use Rattle.wasm_syntax.specs.declared.modules.Global.{Global}
+use Rattle.wasm_syntax.specs.declared.modules.Import.{Import}
 use Rattle.wasm_syntax.specs.declared.modules.Module.{Module}
 use Rattle.wasm_syntax.specs.declared.modules.Run.{Run}
 use Rattle.wasm_syntax.specs.Index.{func_indices, imported_globals, all_globals}
 use Rattle.wasm_syntax.specs.Typing.{is_number, is_constant}
-use Rattle.wasm_syntax.specs.Validity.{IsConstant, IsData, IsDeclaredFunc, IsElem, IsFuncType, IsGlobal, IsStart, IsThere, IsValid, IsValidOutside, constant_type, immutable_type, single}
+use Rattle.wasm_syntax.specs.Validity.{IsConstant, IsData, IsDeclaredFunc, IsElem, IsFuncType, IsGlobal, IsImport, IsStart, IsThere, IsValid, IsValidOutside, constant_type, immutable_type, single}
 use Rattle.history_spec.specs.Code.{i32_value}
 use Rattle.history_spec.specs.Projection.{Layout}
 use Rattle.replay_module_spec.specs.declared.groups.TheConstants.{GROUP_CALLS}
@@ -59,25 +60,32 @@ own_types_valid : All IsFuncType own_types
 own_types_valid =
     All-from_recursion IsFuncType own_types (
       func_type_valid [] [] tt tt (omega arith),
-      func_type_valid (I64 ∷ []) [] (refl, tt) tt (omega arith),
-      func_type_valid [] (I64 ∷ []) tt (refl, tt) (omega arith),
-      func_type_valid (I32 ∷ []) (I64 ∷ []) (refl, tt) (refl, tt) (omega arith),
-      tt,
+      (
+        func_type_valid (I64 ∷ []) [] (refl, tt) tt (omega arith),
+        (
+          func_type_valid [] (I64 ∷ []) tt (refl, tt) (omega arith),
+          (func_type_valid (I32 ∷ []) (I64 ∷ []) (refl, tt) (refl, tt) (omega arith), tt),
+        ),
+      ),
     )
+
+-- the first numbers of equal names
+first_same : (a b : List ℕ) → a ≡ b → slice_index_or a 0 0 ≡ slice_index_or b 0 0
+first_same a b e = ap (λ (l : List ℕ). slice_index_or l 0 0) e
 
 names_differ : (n : Numbers) → AllPairs (λ (e later : Export). e.name ≢ later.name) (own_exports n)
 names_differ n zero zero d below there = absurd (omega (arith, below))
-names_differ n zero (suc zero) d below there = λ e. cc
-names_differ n zero (suc (suc zero)) d below there = λ e. cc
-names_differ n zero (suc (suc (suc zero))) d below there = λ e. cc
+names_differ n zero (suc zero) d below there = λ e. let first = first_same _ _ e in omega (arith, first)
+names_differ n zero (suc (suc zero)) d below there = λ e. let first = first_same _ _ e in omega (arith, first)
+names_differ n zero (suc (suc (suc zero))) d below there = λ e. let first = first_same _ _ e in omega (arith, first)
 names_differ n (suc zero) zero d below there = absurd (omega (arith, below))
 names_differ n (suc zero) (suc zero) d below there = absurd (omega (arith, below))
-names_differ n (suc zero) (suc (suc zero)) d below there = λ e. cc
-names_differ n (suc zero) (suc (suc (suc zero))) d below there = λ e. cc
+names_differ n (suc zero) (suc (suc zero)) d below there = λ e. let first = first_same _ _ e in omega (arith, first)
+names_differ n (suc zero) (suc (suc (suc zero))) d below there = λ e. let first = first_same _ _ e in omega (arith, first)
 names_differ n (suc (suc zero)) zero d below there = absurd (omega (arith, below))
 names_differ n (suc (suc zero)) (suc zero) d below there = absurd (omega (arith, below))
 names_differ n (suc (suc zero)) (suc (suc zero)) d below there = absurd (omega (arith, below))
-names_differ n (suc (suc zero)) (suc (suc (suc zero))) d below there = λ e. cc
+names_differ n (suc (suc zero)) (suc (suc (suc zero))) d below there = λ e. let first = first_same _ _ e in omega (arith, first)
 names_differ n (suc (suc (suc i))) j d below there = absurd (omega (arith, below, there))
 names_differ n i (suc (suc (suc (suc j)))) d below there = absurd (omega (arith, there))
 
@@ -109,13 +117,16 @@ module _ (m : Module) (layout : Layout) (entry : ℕ) (words : List ℕ) (valid 
       let small = few.few in
       All-from_recursion (IsGlobal guarded) (own_globals (length words)) (
         record { number = refl; init = refl },
-        record { number = refl; init = refl },
-        record {
-          number = refl;
-          init =
-              ap (λ (b : Bool). cond b (Some I32) None) (number_typed (length words) small);
-        },
-        tt,
+        (
+          record { number = refl; init = refl },
+          (
+            record {
+              number = refl;
+              init = ap (λ (b : Bool). cond b (Some I32) None) (number_typed (length words) small);
+            },
+            tt,
+          ),
+        ),
       )
 
   -- ---- functions but for their bodies
@@ -199,9 +210,11 @@ module _ (m : Module) (layout : Layout) (entry : ℕ) (words : List ℕ) (valid 
         record { type_there = omega (arith, long); locals = All-nil IsNumberRun },
         joined_all (IsDeclaredFunc guarded) (digest_funcs n.digests n) _ (digests_declared n.digests) (
           record { type_there = omega (arith, long); locals = All-nil IsNumberRun },
-          record { type_there = omega (arith, long); locals = one_run one_i32 refl },
-          groups_declared (λ number. take GROUP_CALLS (drop (GROUP_CALLS * number) words))
-              (range_with_len 0 (group_count (length words))),
+          (
+            record { type_there = omega (arith, long); locals = one_run one_i32 refl },
+            groups_declared (λ number. take GROUP_CALLS (drop (GROUP_CALLS * number) words))
+                (range_with_len 0 (group_count (length words))),
+          ),
         ),
       )
 
@@ -246,10 +259,10 @@ module _ (m : Module) (layout : Layout) (entry : ℕ) (words : List ℕ) (valid 
       let first = globals_long m layout entry words guardable in
       All-from_recursion (λ (e : Export). IsThere guarded e.kind) (own_exports n) (
         start_there m layout entry words guardable,
-        omega (arith, globals, own, first),
-        omega (arith, globals, own, first),
-        omega (arith, globals, own, first),
-        tt,
+        (
+          omega (arith, globals, own, first),
+          (omega (arith, globals, own, first), (omega (arith, globals, own, first), tt)),
+        ),
       )
 
   funcs_there : (funcs : List ℕ) → All (λ f. f < length (func_indices m)) funcs
@@ -266,7 +279,9 @@ module _ (m : Module) (layout : Layout) (entry : ℕ) (words : List ℕ) (valid 
   valid_outside =
       record {
         types = All-append IsFuncType m.types own_types valid.outside.types own_types_valid;
-        imports = valid.outside.imports;
+        imports =
+            subst (λ (l : List Import). All (λ (x : Import). IsImport guarded x.kind) l)
+            (sym (alone m layout entry words guardable)) (All-nil (λ (x : Import). IsImport guarded x.kind));
         funcs = funcs_declared;
         tables = valid.outside.tables;
         memories = valid.outside.memories;
