@@ -104,11 +104,11 @@ c_buffers = record { valid = refl; shows = refl }
 
 module _ (decided : ValidityIsDecided) where
   guarded : (c : ReplayCase) → Computes c → IsGuarded c
-  guarded c computes = record { valid = decided.valid (guard c) computes.valid; shows = computes.shows }
+  guarded c computes = record { valid = (decided (guard c)).1 computes.valid; shows = computes.shows }
 
   guarded_before : (c : ReplayCase) → ComputesBefore c → IsGuardedBefore c
   guarded_before c computes =
-      record { valid = decided.valid (guard_for c (history_words c)) computes.valid; shows = computes.shows }
+      record { valid = (decided (guard_for c (history_words c))).1 computes.valid; shows = computes.shows }
 
   pub guards_of_replays : GuardsOfReplays
   guards_of_replays =
