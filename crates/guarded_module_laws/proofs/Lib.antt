@@ -11,3 +11,4 @@ pub mod Contexts
 pub mod TypedAll
 pub mod ValidOutside
 pub mod Valid
+pub mod Digests
