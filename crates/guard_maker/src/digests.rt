@@ -5,11 +5,10 @@ ghost use Rattle.replay_module_spec.specs.Dispatch.{body_of};
 ghost use Rattle.guarded_module_spec.specs.Functions as spec;
 ghost use Rattle.guard_maker.specs.Bounds.{HasRoom};
 
-use crate::fronts::{i64_const, one_local};
+use crate::fronts::{i32_const, i64_const, one_local};
 use base::NoMemory;
 use base::opcodes::{I32_SHL, I32_SUB, I64_LOAD, I64_MUL, I64_ROTL, I64_XOR};
 use guarded_module_spec::{DIGEST_FACTOR, DIGEST_ROTATION, Numbers};
-use replay_gen::i32_const;
 use std::alloc::Global;
 use wasm_syntax::{Body, Func, Instr, List, MemArg, Runs, ValType};
 

@@ -4,6 +4,7 @@ ghost use Rattle.std.specs.Prelude.{◌≡◌, [], ◌∷◌, ◌++◌, ◌+◌,
 ghost use Rattle.wasm_syntax.specs.declared.values.ValType.{ValType as Ty};
 ghost use Rattle.wasm_syntax.specs.declared.instructions.Instr.TheVariants.{End, LocalSet, Unreachable};
 ghost use Rattle.wasm_syntax.specs.Nest.{Empty};
+ghost use Rattle.replay_module_spec.specs.Effects.{i32_const};
 ghost use Rattle.replay_module_spec.specs.Dispatch.{body_of, sequence};
 ghost use Rattle.guarded_module_spec.specs.Fronts as spec;
 ghost use Rattle.guard_maker.specs.Bounds.{HasRoom};
@@ -36,6 +37,16 @@ pub(crate) fn i64_const(bits: u64) -> Instr
 {
     Instr::Const(Val {
         ty: ValType::I64,
+        bits,
+    })
+}
+
+/// `i32.const` of these bits.
+pub(crate) fn i32_const(bits: u64) -> Instr
+    ensures { result ≡ i32_const bits }
+{
+    Instr::Const(Val {
+        ty: ValType::I32,
         bits,
     })
 }

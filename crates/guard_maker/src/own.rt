@@ -6,12 +6,11 @@ ghost use Rattle.replay_module_spec.specs.Dispatch.{body_of, sequence};
 ghost use Rattle.guarded_module_spec.specs.Functions as spec;
 ghost use Rattle.guard_maker.specs.Bounds.{HasRoom};
 
-use crate::fronts::push_check_number;
+use crate::fronts::{i32_const, push_check_number};
 use crate::numbers::{check_place, digest_place, next_place};
 use base::NoMemory;
 use base::opcodes::{I32_ADD, I64_EXTEND_I32_U, I64_NE};
 use guarded_module_spec::Numbers;
-use replay_gen::i32_const;
 use std::alloc::Global;
 use wasm_syntax::{Body, Func, Instr, List};
 

@@ -4,10 +4,11 @@ ghost use Rattle.std.specs.Prelude.{◌≡◌, ◌∷◌, [], ◌++◌, ◌<◌,
 ghost use Rattle.guarded_module_spec.specs.GuardedModules as spec;
 ghost use Rattle.guard_maker.specs.Bounds.{HasRoom};
 
+use crate::fronts::i32_const;
 use crate::numbers::start_place;
 use base::NoMemory;
 use guarded_module_spec::Numbers;
-use replay_gen::{counter, i32_const, one_type, push_group_type};
+use replay_gen::{counter, one_type, push_group_type};
 use std::alloc::Global;
 use wasm_syntax::{
     Bytes, Custom, Customs, Export, ExportKind, Exports, FuncType, FuncTypes, Global as GlobalDef,

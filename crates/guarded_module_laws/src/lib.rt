@@ -16,7 +16,7 @@ pub fn guarded_modules_keep_originals()
     ensures originals { GuardedModulesKeepOriginals }
 {}
 
-/// Memories that differ in one word of eight bytes have different digests, since each of the three operations by which a
+/// Memories that differ in one word of eight bytes have different digests, since each of the operations by which a
 /// digest takes a word is one to one.
 pub fn digests_find_one_word()
     ensures { OneWordIsFound }

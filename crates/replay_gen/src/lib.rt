@@ -20,4 +20,3 @@ pub use imports::{group, group_count};
 pub use parts::{counter, one_type, push_group_type};
 pub use references::mark;
 pub use replay_module_spec::Fragment;
-pub use stores::i32_const;

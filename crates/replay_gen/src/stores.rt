@@ -73,7 +73,7 @@ fn push_store(
 }
 
 /// `i32.const` of these bits.
-pub fn i32_const(bits: u64) -> Instr
+pub(crate) fn i32_const(bits: u64) -> Instr
     ensures { result ≡ i32_const bits }
 {
     Instr::Const(Val {
