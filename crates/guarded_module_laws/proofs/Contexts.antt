@@ -1,34 +1,30 @@
 -- What the bodies of a guarded module may name.
-use Rattle.std.proofs.Common.{◌≡◌, ℕ, zero, suc, ◌+◌, ◌-◌, ◌<◌, ◌≤◌, List, [], ◌∷◌, ◌++◌, length, map, Option, Some, None, true, slice_get, option_and_then, option_map, refl, sym, ap, ◌∙◌, subst, arith, length-append}
-use Rattle.std.specs.Prelude.{flat_map, filter_map, is_some}
+use Rattle.std.proofs.Common.{◌≡◌, ℕ, suc, ◌+◌, ◌-◌, ◌<◌, ◌≤◌, List, [], ◌∷◌, ◌++◌, length, map, Some, true, slice_get, option_and_then, option_map, refl, sym, ap, ◌∙◌, arith, length-append}
+use Rattle.std.specs.Prelude.{flat_map, is_some}
 use Rattle.std.proofs.lemmas.List.{append_assoc, length-map, map-append}
 use Rattle.std.proofs.lemmas.Option.{get_or_from_slice_get, slice_get-map, slice_get_within}
 use Rattle.std.specs.List.{AllByRecursion}
-use Rattle.base.proofs.Lists.{first_there, get_after_by, get_front, item_there}
+use Rattle.base.proofs.Lists.{get_after_by, get_front, item_there}
 use Rattle.wasm_syntax.specs.declared.signatures.FuncType.{FuncType}
 use Rattle.wasm_syntax.specs.declared.signatures.GlobalType.{GlobalType}
 use Rattle.wasm_syntax.specs.declared.signatures.Limits.{Limits}
 use Rattle.wasm_syntax.specs.declared.instructions.Instr.{Instr}
-use Rattle.wasm_syntax.specs.declared.modules.ElemSeg.{ElemSeg}
-use Rattle.wasm_syntax.specs.declared.modules.Export.{Export}
 use Rattle.wasm_syntax.specs.declared.modules.Func.{Func}
 use Rattle.wasm_syntax.specs.declared.modules.Global.{Global}
 use Rattle.wasm_syntax.specs.declared.modules.Module.{Module}
 use Rattle.wasm_syntax.specs.Index.{of_kind, global_import, memory_import, func_indices, func_type, type_at, all_globals, all_memories, imported_globals}
 use Rattle.wasm_syntax.specs.Nest.{Nest, flat, IsBody}
-use Rattle.wasm_syntax.specs.Typing.{Context, func_at, has_memory}
-use Rattle.wasm_syntax.specs.Validity.{IsValid, IsTypedFunc, body_context, declared_funcs, each_local, elem_funcs, exported_func}
+use Rattle.wasm_syntax.specs.Validity.{body_context, declared_funcs, each_local, elem_funcs}
 use Rattle.history_spec.specs.Projection.{Layout}
 use Rattle.replay_module_spec.specs.Functions.{start_type}
-use Rattle.replay_module_laws.proofs.Generated.{counter_type}
 use Rattle.type_safety.proofs.Wider.{IsKnown, Widens}
 use Rattle.guarded_module_spec.specs.declared.numbers.Numbers.{Numbers}
-use Rattle.guarded_module_spec.specs.Numbers.{behind, digest_count, numbers_of, start_place, check_place, next_place, digest_place, begun, passed}
-use Rattle.guarded_module_spec.specs.GuardedModules.{own_funcs, own_globals, own_types, redirected, type_in, guarded_module}
+use Rattle.guarded_module_spec.specs.Numbers.{digest_count, numbers_of, start_place, digest_place}
+use Rattle.guarded_module_spec.specs.GuardedModules.{own_funcs, own_globals, own_types, type_in, guarded_module}
 use Rattle.guarded_module_spec.specs.Forms.{IsGuardable}
-use Rattle.guarded_module_laws.proofs.Indices.{types_length, types_of, indices_of, indices_are, behind_type, fronted, fronted_long, func_kept, check_type, next_type, digest_type}
+use Rattle.guarded_module_laws.proofs.Indices.{types_length, types_of, indices_of, indices_are, fronted, fronted_long, digest_type}
 use Rattle.guarded_module_laws.proofs.Known.{RefersElsewhere, exported_is, nest_known}
-use Rattle.guarded_module_laws.proofs.TypedFronts.{gives_word, takes_word}
+use Rattle.guarded_module_laws.proofs.TypedFronts.{gives_word}
 
 memory_is : (memories : List Limits) (more : ℕ) → digest_count memories ≡ suc more
     → (is_some (slice_get memories 0) ≡ true) × (digest_count memories ≡ 1)

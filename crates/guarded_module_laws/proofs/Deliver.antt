@@ -1,5 +1,5 @@
 -- Results that come to the activations below a function, in the replay module and in its guarded module.
-use Rattle.std.proofs.Common.{◌≡◌, ◌≤◌, ℕ, Bool, true, false, nat_le, List, [], ◌∷◌, ◌++◌, map, length, Option, Some, None, refl, ap, ap₂, sym, ◌∙◌, subst, arith}
+use Rattle.std.proofs.Common.{◌≡◌, ℕ, Bool, true, false, nat_le, List, [], ◌∷◌, ◌++◌, map, length, Option, Some, None, refl, ap, ap₂, sym, ◌∙◌, subst, arith}
 use Rattle.std.specs.Prelude.{reverse, take, cond}
 use Rattle.std.proofs.lemmas.Bool.Decides.{nat_tests}
 use Rattle.std.proofs.lemmas.List.{length-take, length-reverse, append-nil, reverse-reverse, take_all}
@@ -10,7 +10,7 @@ use Rattle.base.specs.declared.outcomes.Outcome.TheVariants.{Ended}
 use Rattle.history_spec.specs.declared.entries.Entry.{Entry}
 use Rattle.history_spec.specs.declared.entries.Entry.TheVariants.{HostReturn, Exit}
 use Rattle.history_spec.specs.Configuration.{Place, place, Label, Frame, Activation, InModule, InMain, topmost, push_all, leave, with_results}
-use Rattle.history_spec.specs.Settle.{SettleEnd, Continues, Finishes, NoRule, SettleResult, settle_result, after_entry, AtEnd, Within, Gives, TooFew, at_end, at_end_of, end_results, return_entry, return_from, deliver}
+use Rattle.history_spec.specs.Settle.{Continues, Finishes, NoRule, SettleResult, settle_result, after_entry, AtEnd, Within, Gives, TooFew, at_end, at_end_of, end_results, return_entry, return_from, deliver}
 use Rattle.history_spec.specs.Projection.{Layout, Side, Import, Original, Appended, side, caller_side, shown_entries, shown_return}
 use Rattle.guarded_module_laws.specs.Moved.{moved_nest, moved_place, moved_label, moved_frame}
 

@@ -1,20 +1,20 @@
 -- Digests are one to one in each word.
 use Rattle.std.proofs.Common.{◌≡◌, ◌∙◌, ℕ, zero, suc, ◌+◌, ◌*◌, ◌/◌, ◌%◌, ◌^◌, ◌<◌, ◌≤◌, List, [], ◌∷◌, ◌++◌, length, refl, sym, ap, ap₂, subst, arith, length-append}
-use Rattle.std.specs.Prelude.{All, take, drop}
+use Rattle.std.specs.Prelude.{take, drop}
 use Rattle.std.specs.Int.Bits.{bit_xor, xor_assoc, xor_self, xor_zero_r}
 use Rattle.std.specs.List.{AllByRecursion}
 use Rattle.std.proofs.Math.Nat.{mod-eq_of_lt, mod-lt, mul_assoc, add-mul-mod_self_right}
-use Rattle.std.proofs.lemmas.List.{drop-append-le, take-append-le, take_all, length-drop}
+use Rattle.std.proofs.lemmas.List.{drop-append-le, take-append-le, length-drop}
 use Rattle.std.proofs.lemmas.List.Elements.{All-drop, All-take, recursion_from_All}
 use Rattle.std.proofs.lemmas.Nat.{mul-mod_first, xor_comm, xor_lt}
 use Rattle.std.proofs.Math.Seq.{drop-append_seam, take-append_seam}
-use Rattle.wasm_numeric.specs.Integer.{bit, number_of_bits, rotl_by}
+use Rattle.wasm_numeric.specs.Integer.{rotl_by}
 use Rattle.wasm_numeric.proofs.Bitwise.{xor_is}
 use Rattle.history_spec.specs.Store.{number_of}
 use Rattle.replay_module_laws.proofs.TypedEffects.{number_small}
 use Rattle.guarded_module_spec.specs.declared.words.TheConstants.{DIGEST_FACTOR, DIGEST_ROTATION}
 use Rattle.guarded_module_spec.specs.Words.{digest_of, digest_with}
-use Rattle.guarded_module_laws.specs.DigestLaws.{AreBytes, DifferInOneWord, OneWordIsFound}
+use Rattle.guarded_module_laws.specs.DigestLaws.{AreBytes, OneWordIsFound}
 
 -- ---- the three parts
 

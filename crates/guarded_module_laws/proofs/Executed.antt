@@ -13,10 +13,10 @@ use Rattle.wasm_syntax.specs.Alike.{same_signature}
 use Rattle.wasm_syntax.specs.Nest.{Nest, Empty, Plain, InBlock, InLoop, InIf, InIfElse, size}
 use Rattle.wasm_syntax.specs.Opcodes.{Access, numeric_shape, load_of, store_of}
 use Rattle.history_spec.specs.Numeric.{NumericValue, Computed, Undefined, Unsupported, numeric_value}
-use Rattle.history_spec.specs.Store.{Store, Memory, Table, bytes_at, with_bytes_at, with_bytes_copied, bytes_of, grown_memory, grown_table, with_entry, with_global}
-use Rattle.history_spec.specs.Code.{Code, Definition, signature}
+use Rattle.history_spec.specs.Store.{Store, Memory, Table, bytes_at, with_bytes_at, with_bytes_copied, bytes_of, grown_memory, grown_table, with_entry}
+use Rattle.history_spec.specs.Code.{Code, signature}
 use Rattle.history_spec.specs.Configuration.{Place, place, Label, Frame, topmost}
-use Rattle.history_spec.specs.Instruction.{Execution, NoRule, Did, Calls, frame_after, on, pop, takes, bits_at, choice, enters, block_arity, gives, branch, branch_to, to_label, to_caller, calls_if, calls_entry, load_result, store_result, grow_result, table_result, table_grow_result, numeric_result, type_of_top, referent, execute, execute_at, execute_plain}
+use Rattle.history_spec.specs.Instruction.{Execution, Did, Calls, frame_after, on, pop, takes, bits_at, choice, enters, block_arity, gives, branch, branch_to, to_label, to_caller, calls_if, calls_entry, load_result, store_result, grow_result, table_result, table_grow_result, numeric_result, type_of_top, referent, execute, execute_at, execute_plain}
 use Rattle.guarded_module_spec.specs.Forms.{is_indirect}
 use Rattle.guarded_module_laws.specs.Moved.{with_more, called_by, moved_nest, moved_place, moved_label, moved_frame, moved_execution, HasRule}
 

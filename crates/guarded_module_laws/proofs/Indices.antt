@@ -1,6 +1,6 @@
 -- The functions of a guarded module under their numbers.
 use Rattle.std.proofs.Common.{◌≡◌, ℕ, zero, suc, ◌+◌, ◌-◌, ◌<◌, ◌≤◌, List, [], ◌∷◌, ◌++◌, length, map, Some, Bool, true, false, cond, nat_lt, slice_get, option_and_then, refl, sym, ap, ◌∙◌, subst, arith, length-append}
-use Rattle.std.specs.Prelude.{take, drop}
+use Rattle.std.specs.Prelude.{drop}
 use Rattle.std.specs.List.{enumerate_from}
 use Rattle.std.proofs.lemmas.Bool.Decides.{nat_tests}
 use Rattle.std.proofs.lemmas.List.{append_assoc, length-map, length-take, map-append, take-append-drop}
@@ -14,10 +14,10 @@ use Rattle.wasm_syntax.specs.declared.modules.Module.{Module}
 use Rattle.wasm_syntax.specs.Index.{of_kind, func_import, func_indices, func_type, type_at}
 use Rattle.history_spec.specs.Projection.{Layout}
 use Rattle.guarded_module_spec.specs.declared.numbers.Numbers.{Numbers}
-use Rattle.guarded_module_spec.specs.Numbers.{behind, digest_count, numbers_of, start_place, check_place, next_place, digest_place, first_group}
+use Rattle.guarded_module_spec.specs.Numbers.{behind, digest_count, numbers_of, start_place, check_place, next_place, digest_place}
 use Rattle.guarded_module_spec.specs.Fronts.{import_front, func_front}
 use Rattle.guarded_module_spec.specs.Functions.{start_func, digest_funcs, check_func, next_func, group_funcs, group_func}
-use Rattle.guarded_module_spec.specs.GuardedModules.{funcs_in_places, original_funcs, appended_funcs, outside_funcs, redirected, is_called, type_in, import_fronts, func_fronts, own_funcs, own_types, guarded_funcs, guarded_module}
+use Rattle.guarded_module_spec.specs.GuardedModules.{funcs_in_places, original_funcs, appended_funcs, outside_funcs, redirected, is_called, type_in, import_fronts, func_fronts, own_funcs, own_types, guarded_module}
 
 -- the type indices of functions
 abbrev pub types_of : List Func → List ℕ

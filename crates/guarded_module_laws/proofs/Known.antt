@@ -1,11 +1,11 @@
 -- What the bodies of a guardable module refer to is declared in its guarded module.
-use Rattle.std.proofs.Common.{◌≡◌, ℕ, ◌<◌, ◌≤◌, List, [], ◌∷◌, ◌++◌, length, map, Option, Some, None, Bool, true, false, nat_lt, nat_eq, refl, sym, ap, ◌∙◌, subst, arith, inl, inr}
-use Rattle.std.specs.Prelude.{◌||◌, flat_map, filter_map}
+use Rattle.std.proofs.Common.{◌≡◌, ℕ, ◌≤◌, List, [], ◌∷◌, ◌++◌, length, Option, Some, None, Bool, true, false, nat_lt, nat_eq, refl, sym, ap, ◌∙◌, subst, arith}
+use Rattle.std.specs.Prelude.{◌||◌, filter_map}
 use Rattle.std.specs.List.{AllByRecursion, cons_option, list_any}
 use Rattle.std.proofs.lemmas.Bool.Decides.{nat_tests}
 use Rattle.std.proofs.lemmas.List.Folds.{list_any-append}
 use Rattle.std.proofs.lemmas.Option.{none-some}
-use Rattle.base.proofs.Booleans.{and_parts, and_true, or_cases, own_number}
+use Rattle.base.proofs.Booleans.{and_parts, and_true}
 use Rattle.wasm_syntax.specs.declared.instructions.Instr.{Instr}
 use Rattle.wasm_syntax.specs.declared.instructions.Instr.TheVariants.{End, RefFunc}
 use Rattle.wasm_syntax.specs.declared.modules.Export.{Export}
@@ -13,7 +13,7 @@ use Rattle.wasm_syntax.specs.declared.modules.ExportKind.{ExportKind}
 use Rattle.wasm_syntax.specs.declared.modules.ExportKind.TheVariants as export
 use Rattle.wasm_syntax.specs.declared.modules.Func.{Func}
 use Rattle.wasm_syntax.specs.Nest.{Nest, flat, IsBody}
-use Rattle.wasm_syntax.specs.Typing.{Context, is_declared}
+use Rattle.wasm_syntax.specs.Typing.{Context}
 use Rattle.wasm_syntax.specs.Validity.{exported_func}
 use Rattle.wasm_syntax.proofs.JoinedLists.{both_parts}
 use Rattle.history_spec.specs.Replay.{func_of_exports, func_of_start}

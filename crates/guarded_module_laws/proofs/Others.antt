@@ -9,7 +9,7 @@ use Rattle.history_spec.specs.Projection.{Layout}
 use Rattle.guarded_module_spec.specs.declared.numbers.Numbers.{Numbers}
 use Rattle.guarded_module_spec.specs.Numbers.{numbers_of}
 use Rattle.guarded_module_spec.specs.Fronts.{import_front, func_front}
-use Rattle.guarded_module_spec.specs.GuardedModules.{import_fronts, func_fronts, own_funcs, own_exports, redirected, is_called, guarded_funcs, guarded_module, type_in, funcs_in_places, original_funcs, appended_funcs}
+use Rattle.guarded_module_spec.specs.GuardedModules.{import_fronts, func_fronts, own_funcs, own_exports, redirected, is_called, guarded_funcs, guarded_module, type_in}
 use Rattle.guarded_module_spec.specs.Differences.{with_originals}
 
 module _ {X : Type 0} where

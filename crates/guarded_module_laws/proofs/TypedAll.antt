@@ -1,33 +1,31 @@
 -- All functions of a guarded module have typings.
-use Rattle.std.proofs.Common.{◌≡◌, ℕ, zero, suc, ◌+◌, ◌-◌, ◌*◌, ◌^◌, ◌<◌, ◌≤◌, List, [], ◌∷◌, ◌++◌, length, map, reverse, Option, Some, None, Bool, true, false, slice_get, option_and_then, refl, sym, ap, ◌∙◌, subst, arith}
-use Rattle.std.specs.Prelude.{All, take, drop, is_some, IsTrue, replicate}
+use Rattle.std.proofs.Common.{◌≡◌, ℕ, zero, suc, ◌+◌, ◌-◌, ◌*◌, ◌^◌, ◌<◌, ◌≤◌, List, [], ◌∷◌, ◌++◌, length, map, reverse, Some, Bool, true, false, slice_get, refl, sym, ap, ◌∙◌, subst, arith}
+use Rattle.std.specs.Prelude.{All, take, drop, is_some, IsTrue}
 use Rattle.std.specs.List.{AllByRecursion, enumerate_from, range_with_len}
-use Rattle.std.proofs.lemmas.List.{length-map}
-use Rattle.std.proofs.lemmas.List.Elements.{All-append, All-drop, All-from_recursion, All-take, recursion_from_All}
+use Rattle.std.proofs.lemmas.List.Elements.{All-drop, All-from_recursion, All-take, recursion_from_All}
 use Rattle.std.proofs.lemmas.List.FromFn.{length-range_with_len}
 use Rattle.std.proofs.lemmas.Option.{slice_get_within}
 use Rattle.base.proofs.Lists.{all_at, get_after_by, get_front, joined_all}
 use Rattle.wasm_syntax.specs.declared.values.ValType.{ValType}
-use Rattle.wasm_syntax.specs.declared.values.ValType.TheVariants.{I32, I64}
+use Rattle.wasm_syntax.specs.declared.values.ValType.TheVariants.{I64}
 use Rattle.wasm_syntax.specs.declared.signatures.FuncType.{FuncType}
 use Rattle.wasm_syntax.specs.declared.instructions.Instr.{Instr}
 use Rattle.wasm_syntax.specs.declared.instructions.Instr.TheVariants.{Call, Unreachable}
 use Rattle.wasm_syntax.specs.declared.modules.Func.{Func}
 use Rattle.wasm_syntax.specs.declared.modules.Module.{Module}
-use Rattle.wasm_syntax.specs.declared.modules.Run.{Run}
-use Rattle.wasm_syntax.specs.Index.{all_memories, func_indices, func_type, type_at}
-use Rattle.wasm_syntax.specs.Nest.{Nest, Empty, flat, IsBody}
-use Rattle.wasm_syntax.specs.Typing.{Context, IsTyped, Leaves, func_at, is_number}
+use Rattle.wasm_syntax.specs.Index.{all_memories, func_type, type_at}
+use Rattle.wasm_syntax.specs.Nest.{Nest, Empty, IsBody}
+use Rattle.wasm_syntax.specs.Typing.{IsTyped, Leaves, is_number}
 use Rattle.wasm_syntax.specs.Validity.{IsDeclaredFunc, IsFuncType, IsTypedFunc, IsValid, body_context, each_local}
 use Rattle.history_spec.specs.Projection.{Layout}
 use Rattle.replay_module_spec.specs.declared.groups.TheConstants.{GROUP_CALLS}
 use Rattle.replay_module_spec.specs.Dispatch.{body_of, sequence}
-use Rattle.replay_module_spec.specs.Functions.{group_count, group_type, import_nest, one_i32, start_type}
+use Rattle.replay_module_spec.specs.Functions.{group_count, group_type, import_nest, start_type}
 use Rattle.replay_module_laws.proofs.Originals.{typed_nest}
 use Rattle.replay_module_laws.proofs.Serving.{led}
 use Rattle.replay_module_laws.proofs.Generated.{import_typed}
 use Rattle.guarded_module_spec.specs.declared.numbers.Numbers.{Numbers}
-use Rattle.guarded_module_spec.specs.Numbers.{behind, digest_place, first_group, numbers_of, start_place, check_place, next_place, begun, passed}
+use Rattle.guarded_module_spec.specs.Numbers.{behind, first_group, numbers_of, start_place, check_place, begun, passed}
 use Rattle.guarded_module_spec.specs.Fronts.{func_front, func_front_code, import_front, import_front_code, one_local}
 use Rattle.guarded_module_spec.specs.Functions.{check_func, check_nest, digest_func, digest_funcs, digest_nest, group_func, group_funcs, group_nest, next_func, start_code, start_func}
 use Rattle.guarded_module_spec.specs.GuardedModules.{appended_funcs, func_fronts, funcs_in_places, guarded_module, import_fronts, is_called, original_funcs, outside_funcs, own_funcs, own_types, redirected, redirected_instr, type_in}

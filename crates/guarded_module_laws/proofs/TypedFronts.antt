@@ -1,5 +1,5 @@
 -- The typing of the code of fronts, in a context in which the function that takes a word has its type.
-use Rattle.std.proofs.Common.{◌≡◌, ℕ, zero, suc, ◌+◌, ◌^◌, ◌<◌, List, [], ◌∷◌, ◌++◌, length, map, reverse, Some, true, false, option_map, refl, sym, ap, ◌∙◌, subst, arith}
+use Rattle.std.proofs.Common.{◌≡◌, ℕ, suc, ◌+◌, ◌^◌, ◌<◌, List, [], ◌∷◌, ◌++◌, length, map, reverse, Some, true, option_map, refl, sym, ap, ◌∙◌, subst, arith}
 use Rattle.std.specs.Prelude.{IsTrue, slice_get}
 use Rattle.std.specs.List.{AllByRecursion}
 use Rattle.std.proofs.lemmas.Bool.Decides.{nat_tests}
@@ -16,7 +16,7 @@ use Rattle.replay_module_spec.specs.Dispatch.{sequence}
 use Rattle.replay_module_laws.proofs.Serving.{constant_typed, moved}
 use Rattle.guarded_module_spec.specs.declared.numbers.Numbers.{Numbers}
 use Rattle.guarded_module_spec.specs.Numbers.{behind, check_place}
-use Rattle.guarded_module_spec.specs.Fronts.{check_local, check_locals, check_number, func_front_code, import_front_code, local_gets, to_word}
+use Rattle.guarded_module_spec.specs.Fronts.{check_local, check_locals, check_number, func_front_code, import_front_code, local_gets}
 
 -- the types of a function that takes a word, and of one that gives a word
 abbrev pub takes_word : FuncType

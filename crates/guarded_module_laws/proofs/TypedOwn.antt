@@ -1,17 +1,15 @@
 -- The typing of the functions of a guarded module's own, in contexts that have what they need.
-use Rattle.std.proofs.Common.{◌≡◌, ℕ, zero, suc, ◌+◌, ◌*◌, ◌^◌, ◌<◌, ◌≤◌, List, [], ◌∷◌, ◌++◌, length, map, reverse, Some, true, option_and_then, option_map, refl, ap, ◌∙◌, arith}
+use Rattle.std.proofs.Common.{◌≡◌, ℕ, zero, suc, ◌+◌, ◌^◌, ◌<◌, List, [], ◌∷◌, ◌++◌, map, Some, true, option_and_then, option_map, refl, ap, ◌∙◌, arith}
 use Rattle.std.specs.Prelude.{slice_get, cond, drop, None}
 use Rattle.std.specs.List.{AllByRecursion}
-use Rattle.std.proofs.lemmas.Bool.Decides.{nat_tests}
 use Rattle.base.specs.declared.opcodes.TheConstants.{I32_ADD, I32_REM_U, I32_SUB, I32_SHL, I64_NE, I64_XOR, I64_ROTL, I64_MUL, I64_LOAD, I64_EXTEND_I32_U}
 use Rattle.wasm_syntax.specs.declared.values.ValType.{ValType}
 use Rattle.wasm_syntax.specs.declared.values.ValType.TheVariants.{I32, I64}
-use Rattle.wasm_syntax.specs.declared.signatures.FuncType.{FuncType}
 use Rattle.wasm_syntax.specs.declared.signatures.GlobalType.{GlobalType}
 use Rattle.wasm_syntax.specs.declared.instructions.Instr.{Instr}
 use Rattle.wasm_syntax.specs.declared.instructions.Instr.TheVariants.{Unreachable, BrIf, Return, Call, LocalGet, LocalSet, LocalTee, GlobalGet, GlobalSet, Load, MemorySize, Numeric}
-use Rattle.wasm_syntax.specs.Nest.{Nest, Empty, Plain, InIf, InLoop}
-use Rattle.wasm_syntax.specs.Typing.{Context, IsTyped, Leaves, Moves, call_of, func_at, has_memory, if_true, inside, is_constant, set_of}
+use Rattle.wasm_syntax.specs.Nest.{Nest, Empty, Plain, InIf}
+use Rattle.wasm_syntax.specs.Typing.{Context, IsTyped, Leaves, Moves, call_of, func_at, has_memory, if_true, inside, set_of}
 use Rattle.history_spec.specs.Code.{i32_value}
 use Rattle.replay_module_spec.specs.declared.groups.TheConstants.{GROUP_CALLS}
 use Rattle.replay_module_spec.specs.Dispatch.{sequence}

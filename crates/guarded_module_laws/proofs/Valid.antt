@@ -1,14 +1,8 @@
 -- A guarded module is valid, and keeps the original's functions.
-use Rattle.std.proofs.Common.{◌≡◌, ℕ, ◌+◌, ◌-◌, ◌<◌, ◌≤◌, List, ◌++◌, length, map, Some, slice_get, ap, ◌∙◌, sym, arith}
-use Rattle.std.specs.List.{enumerate_from}
-use Rattle.std.proofs.lemmas.List.{length-map}
+use Rattle.std.proofs.Common.{◌+◌, ◌-◌, ◌++◌, slice_get, ap, ◌∙◌, sym, arith}
 use Rattle.base.proofs.Lists.{get_after_by, get_front}
-use Rattle.wasm_syntax.specs.declared.modules.Func.{Func}
-use Rattle.wasm_syntax.specs.declared.modules.Module.{Module}
-use Rattle.history_spec.specs.Projection.{Layout}
 use Rattle.guarded_module_spec.specs.Numbers.{numbers_of}
-use Rattle.guarded_module_spec.specs.GuardedModules.{appended_funcs, funcs_in_places, guarded_module, import_fronts, original_funcs}
-use Rattle.guarded_module_spec.specs.Forms.{IsGuardable}
+use Rattle.guarded_module_spec.specs.GuardedModules.{appended_funcs, funcs_in_places, import_fronts, original_funcs}
 use Rattle.guarded_module_laws.specs.Laws.{GuardedModulesAreValid, GuardedModulesKeepOriginals}
 use Rattle.guarded_module_laws.proofs.Contexts.{alone, within}
 use Rattle.guarded_module_laws.proofs.Indices.{func_kept, import_fronts_long, in_parts, originals_long, places_long, type_kept}

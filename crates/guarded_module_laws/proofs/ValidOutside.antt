@@ -1,12 +1,9 @@
 -- A guarded module is valid but for the bodies of its functions.
-use Rattle.std.proofs.Common.{◌≡◌, ℕ, zero, suc, ◌+◌, ◌^◌, ◌<◌, ◌≤◌, List, [], ◌∷◌, ◌++◌, length, map, Option, Some, None, Bool, true, false, slice_get, option_and_then, refl, sym, ap, ◌∙◌, subst, arith, length-append}
+use Rattle.std.proofs.Common.{◌≡◌, ℕ, zero, suc, ◌+◌, ◌<◌, ◌≤◌, List, [], ◌∷◌, ◌++◌, length, map, Option, Some, None, Bool, true, false, option_and_then, refl, sym, ap, subst, arith, length-append}
 use Rattle.std.specs.Prelude.{All, IsTrue, IfSome, cond, take, drop, ◌*◌, ◌≢◌}
 use Rattle.std.specs.List.{AllByRecursion, AllPairs, enumerate_from, range_with_len, slice_index_or}
-use Rattle.std.proofs.lemmas.List.{length-map}
 use Rattle.std.proofs.lemmas.List.Elements.{All-append, All-cons, All-drop, All-from_recursion, All-map, All-nil, All-take, All-weaker, recursion_from_All}
-use Rattle.std.proofs.lemmas.List.Kept.{AllPairs-cons}
 use Rattle.base.proofs.Lists.{all_at, joined_all}
-use Rattle.wasm_syntax.specs.declared.values.Val.{Val}
 use Rattle.wasm_syntax.specs.declared.values.ValType.{ValType}
 use Rattle.wasm_syntax.specs.declared.values.ValType.TheVariants.{I32, I64}
 use Rattle.wasm_syntax.specs.declared.signatures.FuncType.{FuncType}
@@ -21,25 +18,21 @@ use Rattle.wasm_syntax.specs.declared.modules.Global.{Global}
 use Rattle.wasm_syntax.specs.declared.modules.Import.{Import}
 use Rattle.wasm_syntax.specs.declared.modules.Module.{Module}
 use Rattle.wasm_syntax.specs.declared.modules.Run.{Run}
-use Rattle.wasm_syntax.specs.Index.{func_indices, imported_globals, all_globals}
-use Rattle.wasm_syntax.specs.Typing.{is_number, is_constant}
-use Rattle.wasm_syntax.specs.Validity.{IsConstant, IsData, IsDeclaredFunc, IsElem, IsFuncType, IsGlobal, IsImport, IsStart, IsThere, IsValid, IsValidOutside, constant_type, immutable_type, single}
-use Rattle.history_spec.specs.Code.{i32_value}
+use Rattle.wasm_syntax.specs.Index.{func_indices, all_globals}
+use Rattle.wasm_syntax.specs.Typing.{is_number}
+use Rattle.wasm_syntax.specs.Validity.{IsConstant, IsData, IsDeclaredFunc, IsElem, IsFuncType, IsGlobal, IsImport, IsStart, IsThere, IsValid, IsValidOutside, constant_type, single}
 use Rattle.history_spec.specs.Projection.{Layout}
 use Rattle.replay_module_spec.specs.declared.groups.TheConstants.{GROUP_CALLS}
-use Rattle.replay_module_spec.specs.Fragments.{counter}
-use Rattle.replay_module_spec.specs.Functions.{group_count, group_type, one_i32, start_type}
-use Rattle.replay_module_spec.specs.Merge.{constant_body}
+use Rattle.replay_module_spec.specs.Functions.{group_count, one_i32}
 use Rattle.replay_module_laws.proofs.Serving.{number_typed}
 use Rattle.guarded_module_spec.specs.declared.numbers.Numbers.{Numbers}
-use Rattle.guarded_module_spec.specs.Numbers.{numbers_of, start_place}
+use Rattle.guarded_module_spec.specs.Numbers.{numbers_of}
 use Rattle.guarded_module_spec.specs.Fronts.{func_front, import_front, one_local}
-use Rattle.guarded_module_spec.specs.Functions.{check_func, digest_funcs, group_func, group_funcs, next_func, start_func}
+use Rattle.guarded_module_spec.specs.Functions.{digest_funcs, group_func}
 use Rattle.guarded_module_spec.specs.GuardedModules.{appended_funcs, func_fronts, funcs_in_places, guarded_module, import_fronts, is_called, original_funcs, outside_funcs, own_exports, own_funcs, own_globals, own_types, redirected, type_in}
 use Rattle.guarded_module_spec.specs.Forms.{IsGuardable}
 use Rattle.guarded_module_laws.specs.Laws.{AreFewWords}
-use Rattle.guarded_module_laws.proofs.Indices.{types_length}
-use Rattle.guarded_module_laws.proofs.Contexts.{alone, globals_are, globals_long, more_funcs, start_there, type_is, within}
+use Rattle.guarded_module_laws.proofs.Contexts.{alone, globals_are, globals_long, more_funcs, start_there, type_is}
 
 abbrev IsNumber : ValType → Type 0
 IsNumber t = IsTrue (is_number t)

@@ -1,5 +1,5 @@
 -- A run in which values of all types cross the border.
-use Rattle.std.specs.Prelude.{[], ◌∷◌, Some, None}
+use Rattle.std.specs.Prelude.{[], ◌∷◌, Some}
 use Rattle.wasm_syntax.specs.declared.values.ValType.TheVariants.{I32, I64, F32, F64}
 use Rattle.wasm_syntax.specs.declared.instructions.Instr.TheVariants.{Call, Const, End}
 use Rattle.wasm_syntax.specs.declared.modules.Module.{Module}

@@ -8,7 +8,6 @@ use Rattle.host_script.specs.declared.scripts.LinkFault.{LinkFault}
 use Rattle.base.specs.declared.outcomes.Outcome.TheVariants.{Ended}
 use Rattle.history_spec.specs.Line.{entry_text, outcome_text}
 use Rattle.history_spec.specs.Step.{StepResult}
-use Rattle.history_spec.specs.Projection.{Layout}
 use Rattle.history_spec.specs.Replay.{run_start_alone}
 use Rattle.worked_histories.specs.RunLines.{PrintResult, print_replay}
 use Rattle.worked_replay_modules.specs.Cases.{ReplayCase}
