@@ -1,3 +1,3 @@
-mod OneAnswer
+pub mod OneAnswer
 pub mod FaultCases
 mod ModuleAnswers

@@ -116,7 +116,7 @@ module _ (m : Module) (turns : ℕ) (layout-one : (a b : Layout) → HasLayout m
       in
       x.text ∙ ap (λ (shown : Projection). history_text shown.history shown.outcome) shown ∙ sym y.text
 
-  text-one : (a b : List ℕ) → HasReplayText m turns a → HasReplayText m turns b → a ≡ b
+  pub text-one : (a b : List ℕ) → HasReplayText m turns a → HasReplayText m turns b → a ≡ b
   text-one a b x y = x.lines ∙ printed-one x.printed y.printed x.prints y.prints ∙ sym y.lines
 
   text-none : (text : List ℕ) (fault : Fault) → HasReplayText m turns text → HasNoReplayText m turns fault → ⊥

@@ -1,0 +1,4 @@
+mod UnrefusedCode
+mod Accepted
+mod Texts
+mod Histories
