@@ -1,5 +1,5 @@
 -- What `replay` prints of the bytes that another command prints.
-use Rattle.std.specs.Prelude.{◌≡◌, ℕ, ◌≤◌, List, Bool, false}
+use Rattle.std.specs.Prelude.{◌≡◌, ℕ, ◌≤◌, List, false}
 use Rattle.wasm_syntax.specs.declared.forms.Form.TheVariants.{Replay}
 use Rattle.wasm_syntax.specs.declared.modules.Module.{Module}
 use Rattle.wasm_syntax.specs.Encoding.Modules.{Encodes}
@@ -12,11 +12,12 @@ use Rattle.history_spec.specs.Replay.{Replays}
 use Rattle.replay_form.specs.Forms.{IsReplayable}
 use Rattle.r3_replay.specs.ReplayTexts.{IsReplayText}
 
--- from this number of turns on, and with no fewer turns in any other way, `replay` prints these lines of the bytes, and
--- no others
+-- within any number of turns from the least one on `replay` prints these lines of the bytes, within fewer it prints
+-- none, and it never prints others; the least number is that of the turns which the run of the replay module takes
 pub record IsReplayedAs (printed text : List ℕ) : Type 0 where
   pub least : ℕ
   pub prints : (turns : ℕ) → least ≤ turns → IsReplayText printed turns text
+  pub enough : (turns : ℕ) (other : List ℕ) → IsReplayText printed turns other → least ≤ turns
   pub only : (turns : ℕ) (other : List ℕ) → IsReplayText printed turns other → other ≡ text
 
 -- bytes encode an accepted module that has the form of a replay module, and whose run shows a history and an outcome
