@@ -33,27 +33,27 @@ use Rattle.r3_show.specs.FileLines.{IsShowRefusal, fault_of}
 use Rattle.sha2.specs.Sha256.{sha256}
 use Rattle.r3_instrument.specs.InstrumentedBytes as hooked
 use Rattle.r3_instrument.specs.InstrumentedBytes.{IsHookedRefusal}
-use Rattle.r3_make.specs.LogFiles as logs
-use Rattle.r3_make.specs.LogFiles.{HasNoModuleLog, IsLogRefusal, record_fault}
-use Rattle.r3_make.proofs.FaultCases.{by_cause as of_record}
+use Rattle.r3_record.specs.LogFiles as logs
+use Rattle.r3_record.specs.LogFiles.{HasNoModuleLog, IsLogRefusal, record_fault}
+use Rattle.r3_record.proofs.FaultCases.{by_cause as of_record}
 use Rattle.trace_model.specs.Weight.{tape_weight}
 use Rattle.r3_reduce.specs.TapeFiles.{IsReduceRefusal}
-use Rattle.r3_make.specs.BuildRefusals as tapes
-use Rattle.r3_make.specs.BuildRefusals.{IsBuildRefusal, IsUntaken}
+use Rattle.r3_build.specs.BuildRefusals as tapes
+use Rattle.r3_build.specs.BuildRefusals.{IsBuildRefusal, IsUntaken}
 use Rattle.decl_text.specs.declared.faults.DeclFault.{DeclFault}
 use Rattle.decl_text.specs.declared.faults.DeclFault.TheVariants as decl
 use Rattle.pair_spec.specs.declared.faults.PairFault.{PairFault}
 use Rattle.pair_spec.specs.declared.faults.PairFault.TheVariants as pair
-use Rattle.r3_core.specs.ForeignInputs as foreign
-use Rattle.r3_core.specs.ForeignInputs.{foreign_source, AreUndeclared}
-use Rattle.r3_core.specs.PairInputs as pairs
-use Rattle.r3_core.specs.PairInputs.{pair_source, AreRefusedPairBytes}
-use Rattle.r3_core.specs.Sources as sources
-use Rattle.r3_core.specs.Sources.{Source, AreRefusedWithScript, HasNoHistory, HasNoReplay}
-use Rattle.r3_core.specs.WorldReplays as world_replays
-use Rattle.r3_core.specs.WorldReplays.{IsWorldUnmade}
-use Rattle.r3_core.specs.WorldRuns as worlds
-use Rattle.r3_core.specs.WorldRuns.{WorldRun}
+use Rattle.r3_instances.specs.ForeignInputs as foreign
+use Rattle.r3_instances.specs.ForeignInputs.{foreign_source, AreUndeclared}
+use Rattle.r3_instances.specs.PairInputs as pairs
+use Rattle.r3_instances.specs.PairInputs.{pair_source, AreRefusedPairBytes}
+use Rattle.r3_instances.specs.Sources as sources
+use Rattle.r3_instances.specs.Sources.{Source, AreRefusedWithScript, HasNoHistory, HasNoReplay}
+use Rattle.r3_instances.specs.WorldReplays as world_replays
+use Rattle.r3_instances.specs.WorldReplays.{IsWorldUnmade}
+use Rattle.r3_instances.specs.WorldRuns as worlds
+use Rattle.r3_instances.specs.WorldRuns.{WorldRun}
 use Rattle.load_maker.specs.Loads.{load_script}
 use Rattle.load_maker.specs.declared.load_module.TheConstants.{LOAD_MODULE}
 use Rattle.r3_core.specs.declared.words.Command.{Command}

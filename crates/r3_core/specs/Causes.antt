@@ -8,15 +8,15 @@ use Rattle.r3_faults.specs.declared.faults.Fault.TheVariants.{Usage, Read, TooLo
 use Rattle.r3_make.specs.Refusals.{AreReplayable, IsMakeRefusal}
 use Rattle.r3_make.specs.Printed.{IsPrinted}
 use Rattle.r3_instrument.specs.InstrumentedBytes.{IsHookedOf, IsHookedRefusal}
-use Rattle.r3_make.specs.LogFiles.{IsLogFile, IsLogRefusal}
+use Rattle.r3_record.specs.LogFiles.{IsLogFile, IsLogRefusal}
 use Rattle.r3_reduce.specs.TapeFiles.{IsReduced, IsReduceRefusal}
-use Rattle.r3_make.specs.BuildRefusals.{IsBuildRefusal}
-use Rattle.r3_make.specs.BuiltReplays as built
+use Rattle.r3_build.specs.BuildRefusals.{IsBuildRefusal}
+use Rattle.r3_build.specs.BuiltReplays as built
 use Rattle.r3_history.specs.Histories.{IsHistory, IsHistoryRefusal}
-use Rattle.r3_core.specs.ForeignHistories.{IsForeignHistory, IsForeignHistoryRefusal}
-use Rattle.r3_core.specs.ForeignReplays.{AreForeignReplayable, IsForeignPrinted, IsForeignRefusal}
-use Rattle.r3_core.specs.PairHistories.{IsPairHistory, IsPairHistoryRefusal}
-use Rattle.r3_core.specs.PairReplays.{ArePairReplayable, IsPairPrinted, IsPairRefusal}
+use Rattle.r3_instances.specs.ForeignHistories.{IsForeignHistory, IsForeignHistoryRefusal}
+use Rattle.r3_instances.specs.ForeignReplays.{AreForeignReplayable, IsForeignPrinted, IsForeignRefusal}
+use Rattle.r3_instances.specs.PairHistories.{IsPairHistory, IsPairHistoryRefusal}
+use Rattle.r3_instances.specs.PairReplays.{ArePairReplayable, IsPairPrinted, IsPairRefusal}
 use Rattle.r3_replay.specs.ReplayTexts.{IsReplayText, IsReplayRefusal}
 use Rattle.r3_show.specs.FileLines.{IsShown, IsShowRefusal}
 use Rattle.load_maker.specs.Loads.{load_script}

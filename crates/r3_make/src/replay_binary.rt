@@ -12,13 +12,13 @@ ghost use Rattle.r3_make.specs.Printed.{IsReplayFor};
 ghost use Rattle.r3_make.specs.Refusals.{IsUnmade};
 ghost use Rattle.r3_make.specs.Tapes.{NeedsLightTape};
 
-use crate::replay_bytes;
 use crate::tapes::needed_tape;
 use accepted_runs::supply_that_links;
 use history_spec::runs_have_one_result_at_most;
 use host_script::Script;
 use instrumented_module_laws::encoded_have_words;
 use r3_faults::Fault;
+use replay_laws::replay_bytes;
 use replay_theorem::{needed_tapes_are_constant, needed_tapes_are_playable, runs_are_replayed};
 use std::alloc::Global;
 use tape_laws::nothing_can_be_dropped;
@@ -79,5 +79,6 @@ fn made_replay(
     let _valid = checked.module();
     let supply = supply_that_links(alloc, &checked, &script)?;
     let tape = needed_tape(alloc, bytes, &checked, &supply, script, turns)?;
-    replay_bytes(alloc, bytes, checked, &supply, tape)
+    let printed = replay_bytes(alloc, checked, &supply, tape)?;
+    Ok(printed)
 }

@@ -11,13 +11,13 @@ ghost use Rattle.r3_faults.specs.declared.faults.Fault.TheVariants.{Memory};
 ghost use Rattle.r3_make.specs.RestRefusals.{HasCall, HasNoRest};
 ghost use Rattle.r3_make.specs.RestReplays.{IsRestFor};
 
-use crate::built_replays::{encoded_replay, know_maximum};
 use crate::states_and_cuts::{StateAndCut, state_and_cut};
 use accepted_runs::supply_that_links;
 use history_spec::runs_have_one_result_at_most;
 use host_script::Script;
 use instrumented_module_laws::encoded_have_words;
 use r3_faults::Fault;
+use replay_laws::{encoded_replay, know_maximum};
 use replay_theorem::{needed_tapes_are_constant, needed_tapes_are_playable};
 use rest_laws::{cuts_are_light, cuts_fit, rests_are_there};
 use rest_theorem::{cuts_are_constant, rests_are_replayed_from_states};
@@ -93,5 +93,6 @@ fn made_rest(
         supply,
         cut,
     } = parts;
-    encoded_replay(alloc, module, &supply, cut)
+    let printed = encoded_replay(alloc, module, &supply, cut)?;
+    Ok(printed)
 }

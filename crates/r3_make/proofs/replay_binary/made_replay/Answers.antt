@@ -1,12 +1,17 @@
-use Rattle.std.proofs.Common.{◌≡◌, Ok, subst}
-use Rattle.std.proofs.lemmas.Result.{IfOk-weaker}
+use Rattle.std.proofs.Common.{subst}
 use Rattle.wasm_syntax.specs.Validity.{IsValid}
-use Rattle.history_spec.specs.Instantiation.{instantiate}
-use Rattle.history_spec.specs.Store.{Store}
-use Rattle.r3_make.specs.BuiltReplays.{IsReplayOf}
-use Rattle.r3_make.specs.Printed.{IsReplayFor}
 use Rattle.r3_make.proofs.ShownRun.{constant, replay_for}
 use Rattle.r3_make.proofs.replay_binary.made_replay.Goals as goal
+
+pub replay_bytes-requires-clause-encoded : goal.replay_bytes-requires-clause-encoded
+replay_bytes-requires-clause-encoded c = (
+  c.args.bytes.now,
+  record {
+    encoded = c.requires.is_module.encoded;
+    valid = c.requires.is_module.accepted.valid;
+    few = c.requires.small;
+  },
+)
 
 pub replay_bytes-requires-clause-supplied : goal.replay_bytes-requires-clause-supplied
 replay_bytes-requires-clause-supplied c =
@@ -27,14 +32,8 @@ pub returns-clause-printed : goal.returns-clause-printed
 returns-clause-printed c =
     let m = c.args.checked in
     let script = c.args.script in
-    let supply = c.in_ok-supply.supply in
-    let tape = c.in_ok-tape.tape in
     let needed = c.in_ok-tape.ensures.needed in
-    IfOk-weaker c.replay_bytes.result
-    (λ printed. (store : Store) → instantiate m supply ≡ Ok store → IsReplayOf m supply store tape printed.items)
-    (λ printed. IsReplayFor m script c.args.turns printed.items)
-    (λ printed is.
-    replay_for m script c.args.turns supply needed.0 tape needed.1
+    replay_for m script c.args.turns c.in_ok-supply.supply needed.0 c.in_ok-tape.tape needed.1
     (record {
       valid = subst IsValid c.module-valid.ensures.same c.module-valid.ensures.valid;
       supported = c.requires.runnable.supported;
@@ -42,5 +41,4 @@ returns-clause-printed c =
     }) c.requires.runnable.fits
     (c.encoded_have_words.ensures c.args.bytes.now m c.requires.is_module.encoded c.requires.small).0
     c.runs_are_replayed.ensures c.nothing_can_be_dropped.ensures c.in_ok-tape.ensures.light
-    printed.items (is needed.0 needed.1.linked.begins))
-    c.replay_bytes.ensures.printed
+    c.in_ok-printed.printed.items (c.in_ok-printed.ensures.printed needed.0 needed.1.linked.begins)

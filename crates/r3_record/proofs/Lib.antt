@@ -1,0 +1,4 @@
+mod OneLog
+mod ModuleAnswers
+mod Forms
+pub mod FaultCases
