@@ -28,7 +28,8 @@ use Rattle.r3_history.proofs.OneAnswer.{printed-one}
 use Rattle.r3_make.specs.Printed.{IsPrinted, IsReplayFor}
 use Rattle.replay_text_laws.specs.Accepted.{ReplayModulesAreAccepted}
 use Rattle.replay_text_laws.specs.Texts.{AreBytesOfReplay, ReplaysAreShown}
-use Rattle.replay_text_laws.specs.Histories.{ReplaysPrintHistories}
+use Rattle.replay_text_laws.specs.PrintLaws.{PrintLaws}
+use Rattle.replay_text_laws.specs.Histories.{IsReplayedAsHistory, ReplaysPrintHistories}
 
 -- ---- the printed bytes
 
@@ -72,55 +73,69 @@ more_history m script turns more text enough h =
       lines = h.lines;
     }
 
-module _ (one_module : BytesEncodeOne) (one_result : RunsHaveOneResultAtMost) where
-  -- bytes are one module and one script for it
-  one_inputs : (module_bytes script_bytes : List ℕ) (m n : Module) (script other : Script)
-      → AreInputs module_bytes script_bytes m script → AreInputs module_bytes script_bytes n other
-      → (budget : ℕ) (text : List ℕ) → IsHistoryOf n other budget text → IsHistoryOf m script budget text
-  one_inputs module_bytes script_bytes m n script other own theirs budget text h =
-      let same : n ≡ m = one_module Core module_bytes n m theirs.is_module.encoded own.is_module.encoded in
-      let read : script_of_text m script_bytes ≡ Ok other = subst (λ m. script_of_text m script_bytes ≡ Ok other) same theirs.is_script in
-      let script_same : other ≡ script = same_ok (script_of_text m script_bytes) other script read own.is_script in
-      subst (λ script. IsHistoryOf m script budget text) script_same
-      (subst (λ m. IsHistoryOf m other budget text) same h)
+-- bytes are one module and one script for it
+one_inputs : (module_bytes script_bytes : List ℕ) (m n : Module) (script other : Script) → BytesEncodeOne
+    → AreInputs module_bytes script_bytes m script → AreInputs module_bytes script_bytes n other
+    → (budget : ℕ) (text : List ℕ) → IsHistoryOf n other budget text → IsHistoryOf m script budget text
+one_inputs module_bytes script_bytes m n script other one_module own theirs budget text h =
+    let same : n ≡ m = one_module Core module_bytes n m theirs.is_module.encoded own.is_module.encoded in
+    let read : script_of_text m script_bytes ≡ Ok other =
+    subst (λ m. script_of_text m script_bytes ≡ Ok other) same theirs.is_script
+    in
+    subst (λ script. IsHistoryOf m script budget text)
+    (same_ok (script_of_text m script_bytes) other script read own.is_script)
+    (subst (λ m. IsHistoryOf m other budget text) same h)
 
-  one_history : (m : Module) (script : Script) (a b : ℕ) (x y : List ℕ) → IsHistoryOf m script a x
-      → IsHistoryOf m script b y → x ≡ y
-  one_history m script a b x y first second =
-      printed-one m script (a + b) (λ initial. one_result (program_of m script) all_one initial (a + b)) x y
-      (more_history m script a (a + b) x (omega arith) first)
-      (more_history m script b (a + b) y (omega arith) second)
+one_history : (m : Module) (script : Script) (a b : ℕ) (x y : List ℕ) → RunsHaveOneResultAtMost
+    → IsHistoryOf m script a x → IsHistoryOf m script b y → x ≡ y
+one_history m script a b x y one_result first second =
+    printed-one m script (a + b) (λ initial. one_result (program_of m script) all_one initial (a + b)) x y
+    (more_history m script a (a + b) x (omega arith) first) (more_history m script b (a + b) y (omega arith) second)
 
 -- ---- both
 
-pub replays_print_histories : BytesEncodeOne → EncodedIsEncodable → RunsHaveOneResultAtMost → TextsFit → SuppliesMatch
-    → ReplayModulesAreReplayable → ReplayModulesAreAccepted → ReplaysAreShown → ReplaysPrintHistories
-replays_print_histories one_module encodable one_result texts_fit supplies replayable accepted shown module_bytes
-    script_bytes turns printed p =
-    let m = p.m in
-    let script = p.script in
-    let made = p.replay in
-    let own = p.inputs in
-    let fits : Fits m script = texts_fit m script_bytes script own.is_module.accepted.valid own.is_script in
-    let run = made.needed.run in
-    let outcome = made.needed.outcome in
-    let text = history_text run.history outcome in
-    let history : (budget : ℕ) → turns ≤ budget → IsHistoryOf m script budget text =
-    λ budget enough. record {
-      run = run;
-      outcome = outcome;
-      ends = more_turns m script turns budget run outcome enough made.needed.ends;
-      lines = refl;
-    }
-    in
-    record {
-      text = text;
-      history = λ budget enough. record { m = m; script = script; inputs = own; history = history budget enough };
-      only = λ budget other h.
-          one_history one_module one_result m script budget turns other text
-          (one_inputs one_module one_result module_bytes script_bytes m h.m script h.script own h.inputs budget other h.history)
-          (history turns (omega arith));
-      replay =
-          shown printed (replay_of m made.supply made.tape) (layout_of m) (start_index m) run.history outcome
-          (bytes_of_replay encodable accepted replayable supplies m script turns printed own.is_module.accepted fits made);
-    }
+module _ (laws : PrintLaws) where
+  -- of what is printed for a module and a script, `replay` prints the history of the run
+  pub replayed_as_history : (m : Module) (script : Script) (turns : ℕ) (printed : List ℕ) → IsAccepted false m
+      → Fits m script → IsReplayFor m script turns printed → IsReplayedAsHistory (IsHistoryOf m script) turns printed
+  replayed_as_history m script turns printed accepted fits made =
+      let run = made.needed.run in
+      let outcome = made.needed.outcome in
+      let text = history_text run.history outcome in
+      let history : (budget : ℕ) → turns ≤ budget → IsHistoryOf m script budget text =
+      λ budget enough. record {
+        run = run;
+        outcome = outcome;
+        ends = more_turns m script turns budget run outcome enough made.needed.ends;
+        lines = refl;
+      }
+      in
+      record {
+        text = text;
+        history = history;
+        only = λ budget other h.
+            one_history m script budget turns other text laws.one_result h (history turns (omega arith));
+        replay =
+            laws.shown printed (replay_of m made.supply made.tape) (layout_of m) (start_index m) run.history outcome
+            (bytes_of_replay laws.encodable laws.accepted laws.replayable laws.supplies m script turns printed accepted
+            fits made);
+      }
+
+  pub replays_print_histories : ReplaysPrintHistories
+  replays_print_histories module_bytes script_bytes turns printed p =
+      let m = p.m in
+      let script = p.script in
+      let own = p.inputs in
+      let as_history =
+      replayed_as_history m script turns printed own.is_module.accepted
+      (laws.fit m script_bytes script own.is_module.accepted.valid own.is_script) p.replay
+      in
+      record {
+        text = as_history.text;
+        history = λ budget enough.
+            record { m = m; script = script; inputs = own; history = as_history.history budget enough };
+        only = λ budget other h.
+            as_history.only budget other
+            (one_inputs module_bytes script_bytes m h.m script h.script laws.one_module own h.inputs budget other h.history);
+        replay = as_history.replay;
+      }

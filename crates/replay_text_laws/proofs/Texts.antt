@@ -105,10 +105,10 @@ module _ (one_module : BytesEncodeOne) (one_layout : LayoutsAreOne) (one_result 
         record {
           least = are.shows.run.turns;
           prints = λ turns enough. record {
-                m = replay;
-                is_module = record { encoded = are.encoded; accepted = are.accepted };
-                shown = is_shown turns enough;
-              };
+            m = replay;
+            is_module = record { encoded = are.encoded; accepted = are.accepted };
+            shown = is_shown turns enough;
+          };
           enough = λ turns other shown.
               let own = of_module turns other shown in
               let least = are.shows.run.turns in

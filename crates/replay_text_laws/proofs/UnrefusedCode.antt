@@ -39,12 +39,11 @@ in_sequence (i ∷ code) rest own later = (own.0, in_sequence code rest own.1 la
 in_blocks : (inner : Nest) (arms : List (List Instr)) → AreAll (flat inner) → AllByRecursion AreAll arms
     → AreAll (flat (nested inner arms))
 in_blocks inner [] own each = own
-in_blocks inner (arm ∷ arms) own each =
-    (
-      refl,
-      joined_all IsUnrefused (flat (nested inner arms)) (End ∷ flat (sequence arm Empty)) (in_blocks inner arms own each.1)
+in_blocks inner (arm ∷ arms) own each = (
+  refl,
+  joined_all IsUnrefused (flat (nested inner arms)) (End ∷ flat (sequence arm Empty)) (in_blocks inner arms own each.1)
       (refl, in_sequence arm Empty each.0 tt),
-    )
+)
 
 all_reversed : (arms : List (List Instr)) → AllByRecursion AreAll arms → AllByRecursion AreAll (reverse arms)
 all_reversed [] each = tt
@@ -132,7 +131,7 @@ in_parts : (m : Module) (ty : ℕ) (parts : List (List (List Segment)))
 in_parts m ty [] = tt
 in_parts m ty (part ∷ parts) = (in_group m ty part, in_parts m ty parts)
 
-in_groups : (m : Module) (types : List ℕ) (calls : List (List (List Segment)))
+pub in_groups : (m : Module) (types : List ℕ) (calls : List (List (List Segment)))
     → AllByRecursion AreUnrefused (group_funcs m types calls)
 in_groups m [] calls = tt
 in_groups m (ty ∷ types) [] = tt
@@ -153,17 +152,16 @@ in_import m ty counter first count =
     (in_sequence (count_code counter local) (dispatch selector arms) (refl, (refl, (refl, (refl, (refl, tt)))))
     (in_dispatch selector arms (refl, (refl, (refl, tt))) (in_calls local (range_with_len first count))))
 
-in_imports : (m : Module) (counter first : ℕ) (types : List ℕ) (calls : List (List (List Segment)))
+pub in_imports : (m : Module) (counter first : ℕ) (types : List ℕ) (calls : List (List (List Segment)))
     → AllByRecursion AreUnrefused (import_funcs m counter first types calls)
 in_imports m counter first [] calls = tt
 in_imports m counter first (ty ∷ types) [] = tt
-in_imports m counter first (ty ∷ types) (own ∷ calls) =
-    (
-      in_import m ty counter first (group_count (length own)),
-      in_imports m (counter + 1) (first + group_count (length own)) types calls,
-    )
+in_imports m counter first (ty ∷ types) (own ∷ calls) = (
+  in_import m ty counter first (group_count (length own)),
+  in_imports m (counter + 1) (first + group_count (length own)) types calls,
+)
 
-in_start : (m : Module) (segments : List Segment) → AreUnrefused (start_func m segments)
+pub in_start : (m : Module) (segments : List Segment) → AreUnrefused (start_func m segments)
 in_start m segments =
     in_body (sequence (segments_code m segments) Empty)
     (in_sequence (segments_code m segments) Empty (in_segments m segments) tt)

@@ -1,44 +1,9 @@
-//! What `replay` prints of a module that `make` prints: laws about the definitions, whose statements are in `specs/`;
-//! each function does nothing.
+//! What `replay` prints of the modules that `make`, `foreign` and `pair` print: laws about the definitions, whose
+//! statements are in `specs/`; each function does nothing.
 #![tactic(auto)]
 
-ghost use Rattle.replay_text_laws.specs.Accepted.{ReplayModulesAreAccepted};
-ghost use Rattle.replay_text_laws.specs.Histories.{ReplaysPrintHistories};
-ghost use Rattle.replay_text_laws.specs.Texts.{ReplaysAreShown};
+mod instances;
+mod modules;
 
-use history_spec::runs_have_one_result_at_most;
-use replay_form::layouts_are_one;
-use replay_module_laws::replay_modules_stand;
-use script_text::scripts_that_are_read_fit;
-use type_safety::typed_store;
-use wasm_syntax::{module_encoding, shortest_encoding};
-
-/// The replay module of an accepted module is accepted: generated code has no float arithmetic, and its types, its
-/// limits and its locals are within the profile.
-pub fn replay_modules_are_accepted()
-    ensures { ReplayModulesAreAccepted }
-{}
-
-/// `replay` prints of the bytes of a replay module the lines of what the module's run shows, from some number of turns
-/// on, and no other lines.
-pub fn replays_are_shown()
-    ensures { ReplaysAreShown }
-{
-    module_encoding();
-    layouts_are_one();
-    runs_have_one_result_at_most();
-}
-
-/// Where `make` prints bytes, `replay` prints of these exactly what `history` prints of the run.
-pub fn replays_print_histories()
-    ensures { ReplaysPrintHistories }
-{
-    module_encoding();
-    shortest_encoding();
-    runs_have_one_result_at_most();
-    scripts_that_are_read_fit();
-    typed_store();
-    replay_modules_stand();
-    replay_modules_are_accepted();
-    replays_are_shown();
-}
+pub use instances::{foreign_replays_print_histories, pair_replays_print_histories};
+pub use modules::{replay_modules_are_accepted, replays_are_shown, replays_print_histories};

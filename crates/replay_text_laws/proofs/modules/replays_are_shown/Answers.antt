@@ -1,6 +1,6 @@
 -- The law.
 use Rattle.replay_text_laws.proofs.Texts as texts
-use Rattle.replay_text_laws.proofs.replays_are_shown.Goals as goal
+use Rattle.replay_text_laws.proofs.modules.replays_are_shown.Goals as goal
 
 pub returns : goal.returns
 returns c =
