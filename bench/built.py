@@ -11,5 +11,5 @@ def program_of_sources():
     """The program that ./r3 runs. The script ./r3 itself takes time and machine instructions of its own."""
     found = subprocess.run(["bash", "-c", FIND], env={**os.environ, "top": TOP}, stdout=subprocess.PIPE, text=True)
     if found.returncode != 0 or not found.stdout:
-        sys.exit("no program here was built from the sources in place: ./r3 builds one")
+        sys.exit("no program here was built from the sources in place: ./r3 --build builds one")
     return os.path.join(TOP, found.stdout)

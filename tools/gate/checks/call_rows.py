@@ -253,9 +253,7 @@ MODULES = [
     (
         "two_answers with an import from `r3`",
         # (module (import "r3" "f" (func (result i32))) (func (export "g") (result i32) call 0 call 0 i32.add))
-        bytes.fromhex(
-            "0061736d010000000105016000017f0208010272330166000003020100070501016700010a09010700100010006a0b"
-        ),
+        bytes.fromhex("0061736d010000000105016000017f0208010272330166000003020100070501016700010a09010700100010006a0b"),
         8,
         "reserved: import 0",
     ),

@@ -2,8 +2,19 @@
 import tempfile
 
 from call_rows import (
-    ANSWERS, HISTORIES, LINES, LONG_INDEX, MADE, MODULES, NO_TURNS, RECURSION, REPLAY_TWO_ANSWERS, REPLAYS, SCRIPTS,
-    TWO_ANSWERS, USED_UP,
+    ANSWERS,
+    HISTORIES,
+    LINES,
+    LONG_INDEX,
+    MADE,
+    MODULES,
+    NO_TURNS,
+    RECURSION,
+    REPLAY_TWO_ANSWERS,
+    REPLAYS,
+    SCRIPTS,
+    TWO_ANSWERS,
+    USED_UP,
 )
 from modules import LOG, example, last_within
 from run_tables import FILES, MAX, put_run

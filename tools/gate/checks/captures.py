@@ -24,8 +24,13 @@ def checks(group):
         group.notes.append(f"Node.js {OLDEST} is not here: tools/capture is not checked")
         return
     ran = subprocess.run(
-        [node, SCRIPT, group.program], cwd=group.room, stdin=subprocess.DEVNULL, stdout=subprocess.PIPE,
-        stderr=subprocess.STDOUT, timeout=CALLS * LIMIT, check=False,
+        [node, SCRIPT, group.program],
+        cwd=group.room,
+        stdin=subprocess.DEVNULL,
+        stdout=subprocess.PIPE,
+        stderr=subprocess.STDOUT,
+        timeout=CALLS * LIMIT,
+        check=False,
     )
     lines = ran.stdout.decode(errors="backslashreplace").splitlines()
     total = re.fullmatch(r"(\d+) passed, (\d+) failed", lines[-1] if lines else "")
@@ -34,4 +39,6 @@ def checks(group):
         return
     group.passed += int(total.group(1))
     group.faults += [line.strip() for line in lines[:-1] if line.startswith("  ")]
-    group.expect(ran.returncode == 0 and int(total.group(1)) > 0, f"the tests end with status 0, and not {ran.returncode}")
+    group.expect(
+        ran.returncode == 0 and int(total.group(1)) > 0, f"the tests end with status 0, and not {ran.returncode}"
+    )

@@ -221,19 +221,38 @@ RUNS = [
 
 # What is done, modules and scripts with an action that cannot be done, and the lines.
 FAULTS = [
-    ("a growth that is refused", COPIES,
-     b'{"imports":{"h":{"f":{"calls":[{"do":[{"grow":1}]}],"rest":{"do":[{"grow":1}]}}}},'
-     b'"main":[{"call":"run"},{"call":"run"}]}', "script fault: turn 15 grow refused"),
-    ("a call by the table of an empty entry", CALLS,
-     b'{"main":[{"call_table":2}]}', "script fault: turn 1 empty entry"),
+    (
+        "a growth that is refused",
+        COPIES,
+        b'{"imports":{"h":{"f":{"calls":[{"do":[{"grow":1}]}],"rest":{"do":[{"grow":1}]}}}},'
+        b'"main":[{"call":"run"},{"call":"run"}]}',
+        "script fault: turn 15 grow refused",
+    ),
+    (
+        "a call by the table of an empty entry",
+        CALLS,
+        b'{"main":[{"call_table":2}]}',
+        "script fault: turn 1 empty entry",
+    ),
     ("a call by the table past its end", CALLS, b'{"main":[{"call_table":3}]}', "script fault: turn 1 table outside"),
-    ("a call by the table with an argument too many", CALLS,
-     b'{"main":[{"call_table":1,"args":[{"i32":1}]}]}', "script fault: turn 1 entry type"),
-    ("a table that is set past its end", CALLS,
-     b'{"main":[{"set_table":3,"func":null}]}', "script fault: turn 1 table outside"),
-    ("a write that ends at the memory's end, and one past it", ACCESSES,
-     b'{"main":[{"write":65535,"bytes":"07"},{"write":65536,"bytes":""},{"copy":0,"from":65535,"count":2}]}',
-     "script fault: turn 3 outside"),
+    (
+        "a call by the table with an argument too many",
+        CALLS,
+        b'{"main":[{"call_table":1,"args":[{"i32":1}]}]}',
+        "script fault: turn 1 entry type",
+    ),
+    (
+        "a table that is set past its end",
+        CALLS,
+        b'{"main":[{"set_table":3,"func":null}]}',
+        "script fault: turn 1 table outside",
+    ),
+    (
+        "a write that ends at the memory's end, and one past it",
+        ACCESSES,
+        b'{"main":[{"write":65535,"bytes":"07"},{"write":65536,"bytes":""},{"copy":0,"from":65535,"count":2}]}',
+        "script fault: turn 3 outside",
+    ),
 ]
 
 # A function that calls itself, each call within the one before, and a script that calls it 100,000 deep.

@@ -9,7 +9,11 @@ from modules import limits, module
 # A module with an instruction of each proposal that replay modules use, beside Core 1.0: `ref.null func`, `table.set`,
 # `memory.fill`.
 PROBE = module(
-    [([], [])], funcs=[0], tables=[limits(1)], memories=[limits(1)], exports=[("_start", 0, 0)],
+    [([], [])],
+    funcs=[0],
+    tables=[limits(1)],
+    memories=[limits(1)],
+    exports=[("_start", 0, 0)],
     bodies=[b"\x41\0\xd0\x70\x26\0\x41\0\x41\0\x41\0\xfc\x0b\0"],
 )
 SCRIPT = os.path.join(os.path.dirname(os.path.realpath(__file__)), "replays.js")

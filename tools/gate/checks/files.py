@@ -22,10 +22,18 @@ def calls(group):
     group.put("log", group.done("record", "hooked.wasm", "s.json", "99"))
     group.put("tape", group.done("reduce", "log"))
     return [
-        ["make", *files, "99"], ["history", *files, "99"], ["replay", "r.wasm", "99"], ["instrument", "m.wasm"],
-        ["foreign", *declared, "99"], ["foreign-history", *declared, "99"],
-        ["pair", *pair, "99"], ["pair-history", *pair, "99"],
-        ["record", "hooked.wasm", "s.json", "99"], ["reduce", "log"], ["build", *files, "tape"], ["show", "log"],
+        ["make", *files, "99"],
+        ["history", *files, "99"],
+        ["replay", "r.wasm", "99"],
+        ["instrument", "m.wasm"],
+        ["foreign", *declared, "99"],
+        ["foreign-history", *declared, "99"],
+        ["pair", *pair, "99"],
+        ["pair-history", *pair, "99"],
+        ["record", "hooked.wasm", "s.json", "99"],
+        ["reduce", "log"],
+        ["build", *files, "tape"],
+        ["show", "log"],
         ["load", "1"],
     ]
 

@@ -60,8 +60,12 @@ def check_large_answer(group):
     data = bytes(7 * place % 251 for place in range(20000))
     loop = b"\x03\x40\x20\0\x20\1\x2d\0\0\x6a\x21\0\x20\1\x41\1\x6a\x22\1\x41" + s32(len(data)) + b"\x49\x0d\0\x0b"
     binary = modules.module(
-        [([], [I32]), NULLARY], [("h", "f", b"\0\1")], [0], memories=[modules.limits(1)],
-        exports=[("g", FUNC, 1), ("m", modules.MEMORY, 0)], bodies=[(b"\x10\0" + loop + b"\x20\0", 2)],
+        [([], [I32]), NULLARY],
+        [("h", "f", b"\0\1")],
+        [0],
+        memories=[modules.limits(1)],
+        exports=[("g", FUNC, 1), ("m", modules.MEMORY, 0)],
+        bodies=[(b"\x10\0" + loop + b"\x20\0", 2)],
     )
     write = {"write": 0, "bytes": data.hex()}
     script = {"imports": {"h": {"f": {"calls": [{"do": [write]}]}}}, "main": [{"call": "g"}]}
@@ -139,10 +143,14 @@ def check_long_chain(group):
         files.append(script)
         if last:
             nine = "i32:00000009"
-            lines = f"host-call 1\nstep 1 0 ->\nenter 0\nstep 0 0 -> {nine}\nexit 0 {nine}\nhost-return 1 {nine}\nended\n"
+            lines = (
+                f"host-call 1\nstep 1 0 ->\nenter 0\nstep 0 0 -> {nine}\nexit 0 {nine}\nhost-return 1 {nine}\nended\n"
+            )
             group.expect(group.done("pair-history", *files, "3") == lines.encode(), "a long chain ends at a function")
             replay = group.put("chain.replay.wasm", group.done("pair", *files, "3"))
-            group.expect(group.done("replay", replay, "9") == lines.encode(), "a long chain: `replay` prints the history")
+            group.expect(
+                group.done("replay", replay, "9") == lines.encode(), "a long chain: `replay` prints the history"
+            )
         else:
             group.refused(["pair", *files, "3"], 21, "pair: unresolved left 0")
 

@@ -67,8 +67,7 @@ EIGHT_IMPORTS = bytes.fromhex(
 #   (func (result i32) i32.const 1)), but with 3,000,000 `nop`s before the `i32.const`, and the bytes from
 #   these on are left out
 BEFORE_THE_NOPS = bytes.fromhex(
-    "0061736d010000000105016000017f0207010168016600000303020000070501016700010ad18db701020700100010006a0bc48db701"
-    "00"
+    "0061736d010000000105016000017f0207010168016600000303020000070501016700010ad18db701020700100010006a0bc48db701" "00"
 )
 # i32.const 1, end
 AFTER_THE_NOPS = bytes.fromhex("41010b")

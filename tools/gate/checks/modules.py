@@ -62,8 +62,18 @@ def global_of(value_type, is_mutable, init):
 
 
 def module(
-    types=(), imports=(), funcs=(), tables=(), memories=(), globals_=(), exports=(), start=None, elements=(), bodies=(),
-    datas=(), customs=(),
+    types=(),
+    imports=(),
+    funcs=(),
+    tables=(),
+    memories=(),
+    globals_=(),
+    exports=(),
+    start=None,
+    elements=(),
+    bodies=(),
+    datas=(),
+    customs=(),
 ):
     """A module: types of pairs of lists, imports of two names and the rest, types of functions by index, limits of
     tables and memories, globals, exports of a name, a kind and an index, the start function, lists of functions at 0 in

@@ -12,9 +12,7 @@ ADD = b"\x6a"
 CALL_0 = b"\x10\0"
 IMPORTED_FUNC = b"\0\0"
 # Two adders: the left one adds what two calls of the right one give, and this adds 1 to what the host gives.
-LEFT = module(
-    [ANSWER], [("right", "f", IMPORTED_FUNC)], [0], exports=[("g", FUNC, 1)], bodies=[CALL_0 + CALL_0 + ADD]
-)
+LEFT = module([ANSWER], [("right", "f", IMPORTED_FUNC)], [0], exports=[("g", FUNC, 1)], bodies=[CALL_0 + CALL_0 + ADD])
 RIGHT = module([ANSWER], [("h", "f", IMPORTED_FUNC)], [0], exports=[("f", FUNC, 1)], bodies=[CALL_0 + b"\x41\1" + ADD])
 ANSWERS = {"imports": {"h": {"f": {"calls": [{"return": {"i32": it}} for it in (5, 7)]}}}, "main": [{"call": "left.g"}]}
 SCRIPT = json.dumps(ANSWERS).encode()
@@ -91,12 +89,21 @@ REFUSED = [
     (LEFT, EMPTY, NO_END),
     (LEFT, module(memories=[limits(1)], exports=[("f", MEMORY, 0)]), NO_END),
     (EMPTY, passes_on(("left", "f", IMPORTED_FUNC)), NO_RIGHT_END),
-    (passes_on(("h", "f", IMPORTED_FUNC), ("right", "f", IMPORTED_FUNC)), passes_on(("left", "f", IMPORTED_FUNC)),
-     "pair: unresolved left 1"),
+    (
+        passes_on(("h", "f", IMPORTED_FUNC), ("right", "f", IMPORTED_FUNC)),
+        passes_on(("left", "f", IMPORTED_FUNC)),
+        "pair: unresolved left 1",
+    ),
     (passes_on(("right", "f", IMPORTED_FUNC)), passes_on(("left", "g", IMPORTED_FUNC)), NO_END),
-    (module(imports=[("h", "f", bytes([3, I32, 0]))], globals_=[global_of(I32, 0, b"\x23\0")],
-            exports=[("f", GLOBAL, 1)]),
-     wants_global("left", I32, 0), NO_RIGHT_END),
+    (
+        module(
+            imports=[("h", "f", bytes([3, I32, 0]))],
+            globals_=[global_of(I32, 0, b"\x23\0")],
+            exports=[("f", GLOBAL, 1)],
+        ),
+        wants_global("left", I32, 0),
+        NO_RIGHT_END,
+    ),
     (LEFT, passes_on(("h", "f", IMPORTED_FUNC), types=[([], [I64])]), OTHER),
     (wants_global("right", I64, 0), has_global(I32, 0), OTHER),
     (wants_global("right", I32, 1), has_global(I32, 0), OTHER),
@@ -131,18 +138,32 @@ ORDER = [
     (LEFT, INVALID, 6, "invalid: function 0"),
     (LEFT, RESERVED, 8, "reserved: import 0"),
     (LEFT, passes_on(("left", "x", IMPORTED_FUNC)), NO_END),
-    (passes_on(("right", "f", IMPORTED_FUNC), ("right", "x", IMPORTED_FUNC)), passes_on(("h", "f", b"\0\0"), types=[NULLARY]),
-     OTHER),
-    (ALL_TWICE, module([NULLARY], [("left", "f", IMPORTED_FUNC)], [0], [limits(0)], [limits(0)], start=1, bodies=[b""]),
-     NO_RIGHT_END),
+    (
+        passes_on(("right", "f", IMPORTED_FUNC), ("right", "x", IMPORTED_FUNC)),
+        passes_on(("h", "f", b"\0\0"), types=[NULLARY]),
+        OTHER,
+    ),
+    (
+        ALL_TWICE,
+        module([NULLARY], [("left", "f", IMPORTED_FUNC)], [0], [limits(0)], [limits(0)], start=1, bodies=[b""]),
+        NO_RIGHT_END,
+    ),
     (ALL_TWICE, ALL_TWICE, "pair: two memories"),
     (ALL_TWICE, module([NULLARY], funcs=[0], tables=[limits(0)], start=0, bodies=[b""]), "pair: two tables"),
 ]
 
 # The left module's data segment passes its memory, and the second element segment of the right one passes the table.
 PAST_BOTH = (
-    module([NULLARY], funcs=[0], tables=[limits(1)], memories=[limits(0)], exports=[("t", TABLE, 0)], elements=[[0]],
-           bodies=[b""], datas=[b"\1"]),
+    module(
+        [NULLARY],
+        funcs=[0],
+        tables=[limits(1)],
+        memories=[limits(0)],
+        exports=[("t", TABLE, 0)],
+        elements=[[0]],
+        bodies=[b""],
+        datas=[b"\1"],
+    ),
     module([NULLARY], [table_import(1)], [0], elements=[[0], [0, 0]], bodies=[b""]),
 )
 
@@ -171,7 +192,9 @@ def refused(group, files, turns, status, line):
 def check_run(group):
     """The two adders, with their lines; the replay module in another engine."""
     files = put_pair(group, "adders", LEFT, RIGHT, SCRIPT)
-    group.expect(group.done("pair-history", *files, str(TURNS)) == LINES, "`pair-history` prints the lines of the adders")
+    group.expect(
+        group.done("pair-history", *files, str(TURNS)) == LINES, "`pair-history` prints the lines of the adders"
+    )
     replay = group.put("adders.replay.wasm", group.done("pair", *files, str(TURNS)))
     group.expect(group.done("replay", replay, "100") == LINES, "`replay` prints the lines of the adders")
     node = shutil.which("node") or shutil.which("nodejs")
@@ -185,7 +208,9 @@ def check_host_names(group):
     left = module([ANSWER], [("left", "f", IMPORTED_FUNC)], [0], exports=[("g", FUNC, 1)], bodies=[CALL_0])
     script = b'{"imports":{"left":{"f":{"rest":{"return":{"i32":3}}}}},"main":[{"call":"left.g"}]}'
     files = put_pair(group, "own_name", left, EMPTY, script)
-    lines = b"host-call 1\nstep 1 0 ->\nimport-call 0\nimport-return 0 i32:00000003\nhost-return 1 i32:00000003\nended\n"
+    lines = (
+        b"host-call 1\nstep 1 0 ->\nimport-call 0\nimport-return 0 i32:00000003\nhost-return 1 i32:00000003\nended\n"
+    )
     group.expect(group.done("pair-history", *files, "9") == lines, "the left module imports from the host's `left`")
 
 
@@ -196,7 +221,9 @@ def checks(group):
         refused(group, put_pair(group, f"refused{number}", left, right), 5, 21, line)
     for number, (left, right, lines) in enumerate(LINKED):
         files = put_pair(group, f"linked{number}", left, right)
-        group.expect(group.done("pair-history", *files, "5") == lines, f"linked{number}: `pair-history` prints the lines")
+        group.expect(
+            group.done("pair-history", *files, "5") == lines, f"linked{number}: `pair-history` prints the lines"
+        )
         replay = group.put(f"linked{number}.replay.wasm", group.done("pair", *files, "5"))
         group.expect(group.done("replay", replay, "100") == lines, f"linked{number}: `replay` prints the lines")
     for number, (left, right, *answer) in enumerate(ORDER):

@@ -46,7 +46,7 @@ def sections(binary):
     """The number and the bytes of each section of a module."""
     ends, numbers = section_ends(binary)
     for number, start, end in zip(numbers[1:], ends, ends[1:]):
-        yield number, binary[u32_at(binary, start + 1)[1]:end]
+        yield number, binary[u32_at(binary, start + 1)[1] : end]
 
 
 def layout_of(binary):

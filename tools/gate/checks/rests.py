@@ -142,9 +142,18 @@ def check_examples(group):
         name = file.removesuffix(".history.txt")
         if name == file or name in ("callback", "shelf"):
             continue
-        module = name if os.path.exists(f"{EXAMPLES}/{name}.wasm") else max(
-            (it.removesuffix(".wasm") for it in os.listdir(EXAMPLES) if name.startswith(it.removesuffix(".wasm") + "_")),
-            key=len)
+        module = (
+            name
+            if os.path.exists(f"{EXAMPLES}/{name}.wasm")
+            else max(
+                (
+                    it.removesuffix(".wasm")
+                    for it in os.listdir(EXAMPLES)
+                    if name.startswith(it.removesuffix(".wasm") + "_")
+                ),
+                key=len,
+            )
+        )
         paths = f"{EXAMPLES}/{module}.wasm", f"{EXAMPLES}/{name}.json"
         count += check_rests(group, name, *paths, 100000, contents(f"{EXAMPLES}/{file}"))
     group.expect(count >= 25, "the examples have calls")

@@ -1,4 +1,4 @@
-"""Each status and line of README's table, by a call that ends with it; and the words of a call, with its numbers."""
+"""Each status and line of docs/STATUSES.md, by a call that ends with it; and the words of a call, with its numbers."""
 import hashlib
 import json
 import resource
@@ -11,8 +11,13 @@ TWO_ANSWERS = example("two_answers.wasm")
 ANSWERS = example("two_answers.json")
 WRITER = example("overwrite.wasm")
 TABLES = module(
-    [NULLARY, ANSWER], [("h", "f", b"\0\0")], [0, 1], [limits(3)],
-    exports=[("run", FUNC, 1), ("t", TABLE, 0), ("own", FUNC, 0)], elements=[[1, 0]], bodies=[b"\x10\0", b"\x41\1"],
+    [NULLARY, ANSWER],
+    [("h", "f", b"\0\0")],
+    [0, 1],
+    [limits(3)],
+    exports=[("run", FUNC, 1), ("t", TABLE, 0), ("own", FUNC, 0)],
+    elements=[[1, 0]],
+    bodies=[b"\x10\0", b"\x41\1"],
 )
 FLOAT = b"\x43\0\0\0\0"
 FOREIGN = module([NULLARY], [("h", "f", b"\0\0"), ("foreign", "t", b"\1\x70" + limits(1))])

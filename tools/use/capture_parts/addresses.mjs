@@ -4,9 +4,17 @@
 const LEAST_ADDRESS = 1024;
 const MOST_PLUS = 65536;
 
+/** @typedef {(address: number) => string} AddressText */
+
+/** @type {AddressText} */
 export const fixedAddress = address => String(address);
 
-/** Gives an address from the nearest argument at or below it, and as a number where none is near. */
+/**
+ * Gives an address from the nearest argument at or below it, and as a number where none is near.
+ * @param {import('./module_types.mjs').ValueType[]} params
+ * @param {any[]} args
+ * @returns {AddressText}
+ */
 export function relativeAddress(params, args) {
   const bases = params
     .map((type, index) => ({ index, base: type === 'i32' ? args[index] >>> 0 : 0 }))

@@ -7,26 +7,59 @@ import { Refusal, refuse } from './refusal.mjs';
 import { Response } from './script_text.mjs';
 import { bits, converted, valueText } from './values.mjs';
 
-/** Whether an error says that the engine's stack is full. A run under a script has no such end. */
+/** @typedef {import('./module_functions.mjs').Func} Func */
+/** @typedef {import('./module_types.mjs').FunctionType} FunctionType */
+/** @typedef {{ type: FunctionType, responses: Response[], words: string }} HostCallee */
+/**
+ * @typedef {object} Options
+ * @property {boolean} relative
+ * @property {boolean} isDeclaring
+ * @property {import('./progress.mjs').Progress} progress
+ */
+
+/**
+ * Whether an error says that the engine's stack is full. A run under a script has no such end.
+ * @type {(error: unknown) => boolean}
+ */
 const stackOverflowed = error => error instanceof RangeError && /call stack/i.test(error.message);
 
-const quoted = name => JSON.stringify(name);
+const quoted = (/** @type {string} */ name) => JSON.stringify(name);
 
 export class Crossings {
+  /**
+   * @param {import('./module_types.mjs').ModuleTypes} types
+   * @param {import('./script_text.mjs').Script} script
+   * @param {import('./host_changes.mjs').HostChanges} changes
+   * @param {import('./module_functions.mjs').ModuleFunctions} functions
+   * @param {Options} options
+   */
   constructor(types, script, changes, functions, options) {
-    Object.assign(this, { types, script, changes, functions, options });
+    this.types = types;
+    this.script = script;
+    this.changes = changes;
+    this.functions = functions;
+    this.options = options;
     this.instantiating = true;
     this.hostHasControl = false;
     /** Where the actions of the host go: to a response, or to `main`. */
     this.actions = script.main;
     this.address = fixedAddress;
-    /** How the run came to its end by a trap, in words, or null. */
+    /**
+     * How the run came to its end by a trap, in words, or null.
+     * @type {string | null}
+     */
     this.over = null;
+    /** @type {Refusal | null} */
     this.refusal = null;
     this.hostCalls = 0;
   }
 
-  /** A refusal ends the capture, also where the host catches it: each later crossing throws it again. */
+  /**
+   * A refusal ends the capture, also where the host catches it: each later crossing throws it again.
+   * @template Item
+   * @param {() => Item} step
+   * @returns {Item}
+   */
   guarded(step) {
     if (this.refusal !== null) throw this.refusal;
     try {
@@ -53,7 +86,12 @@ export class Crossings {
     });
   }
 
-  /** What the engine calls for an imported function. */
+  /**
+   * What the engine calls for an imported function.
+   * @param {number} index
+   * @param {Func} hostFunction
+   * @returns {Func}
+   */
   importedFunction(index, hostFunction) {
     const [type, responses] = [this.types.functions[index], this.script.responses[index]];
     const answering = this.answering({ type, responses, words: `import ${index}` }, hostFunction);
@@ -63,13 +101,23 @@ export class Crossings {
     };
   }
 
-  /** What the engine calls for a function of the host's own that is in the table. */
+  /**
+   * What the engine calls for a function of the host's own that is in the table.
+   * @param {string} name
+   * @param {FunctionType} type
+   * @param {Func} hostFunction
+   */
   functionInTable(name, type, hostFunction) {
     const responses = this.script.foreignResponses(name);
     return this.answering({ type, responses, words: `the host's function ${quoted(name)}` }, hostFunction);
   }
 
-  /** `callee` has the type of a host's function, the list that its answers go to, and words for it. */
+  /**
+   * `callee` has the type of a host's function, the list that its answers go to, and words for it.
+   * @param {HostCallee} callee
+   * @param {Func} hostFunction
+   * @returns {Func}
+   */
   answering(callee, hostFunction) {
     return (...args) => {
       // The host calls a function of its own, by an export or a table. The module does not see it.
@@ -78,12 +126,20 @@ export class Crossings {
     };
   }
 
-  /** A start function that is an import is a call of the host by itself: what it does belongs to `main`. */
+  /**
+   * A start function that is an import is a call of the host by itself: what it does belongs to `main`.
+   * @param {Func} hostFunction
+   */
   start(hostFunction) {
     this.enterHost();
     return hostFunction();
   }
 
+  /**
+   * @param {HostCallee} callee
+   * @param {Func} hostFunction
+   * @param {any[]} args
+   */
   answer(callee, hostFunction, args) {
     const outer = { actions: this.actions, address: this.address };
     const response = new Response();
@@ -100,6 +156,12 @@ export class Crossings {
     }
   }
 
+  /**
+   * @param {HostCallee} callee
+   * @param {Response} response
+   * @param {Func} hostFunction
+   * @param {any[]} args
+   */
   answered({ type: { result }, responses, words }, response, hostFunction, args) {
     const where = `call ${responses.length} of ${words}`;
     try {
@@ -109,7 +171,7 @@ export class Crossings {
       this.addChanges();
       response.return_(result === null ? null : valueText(result, bits(result, value)));
       return value;
-    } catch (error) {
+    } catch (/** @type {any} */ error) {
       if (!(error instanceof Refusal) && this.over === null) {
         this.addChanges();
         this.over = `the host threw in ${where}: ${error?.message ?? String(error)}`;
@@ -118,13 +180,22 @@ export class Crossings {
     }
   }
 
-  /** What the host gets for a function that the module defines. It has the name and the length of that function. */
+  /**
+   * What the host gets for a function that the module defines. It has the name and the length of that function.
+   * @param {Func} func
+   * @param {number} index
+   */
   definedFunction(func, index) {
     const { name, length } = func;
     const wrapper = this.recordingCall(func, index);
     return Object.defineProperties(wrapper, { name: { value: name }, length: { value: length } });
   }
 
+  /**
+   * @param {Func} func
+   * @param {number} index
+   * @returns {Func}
+   */
   recordingCall(func, index) {
     return (...args) => {
       const { params, result } = this.types.functions[index];
@@ -137,6 +208,11 @@ export class Crossings {
     };
   }
 
+  /**
+   * @param {Func} func
+   * @param {import('./values.mjs').Value[]} values
+   * @param {string} words
+   */
   call(func, values, words) {
     const where = `call ${++this.hostCalls} by the host, of ${words}`;
     this.hostHasControl = false;
@@ -144,7 +220,7 @@ export class Crossings {
     let returned;
     try {
       returned = func(...values);
-    } catch (error) {
+    } catch (/** @type {any} */ error) {
       this.guarded(() => {
         if (stackOverflowed(error)) refuse(`${where}: the engine's stack overflowed, which is no trap of the module`);
       });
@@ -157,16 +233,22 @@ export class Crossings {
     return returned;
   }
 
-  /** How a script calls a function: by a name, or by an entry of the table that holds it. */
+  /**
+   * How a script calls a function: by a name, or by an entry of the table that holds it.
+   * @param {Func} func
+   * @param {number} index
+   * @returns {{ words: string, action: (texts: string[]) => string }}
+   */
   callee(func, index) {
     const name = this.functions.exportName(func);
-    const args = texts => (texts.length === 0 ? '' : `,"args":[${texts.join(',')}]`);
+    const args = (/** @type {string[]} */ texts) => (texts.length === 0 ? '' : `,"args":[${texts.join(',')}]`);
     if (name !== null) return { words: quoted(name), action: texts => `{"call":${quoted(name)}${args(texts)}}` };
     const place = this.changes.table?.place(func) ?? -1;
     if (place === -1) this.guarded(() => refuse(`the host calls function ${index}, which no export and no entry has`));
     return { words: `entry ${place}`, action: texts => `{"call_table":${place}${args(texts)}}` };
   }
 
+  /** @param {string} what */
   refuseAfterTrap(what) {
     this.guarded(() => {
       if (this.over !== null) refuse(`${this.over}; the host caught this and went on: ${what}`);

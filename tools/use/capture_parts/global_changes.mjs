@@ -3,15 +3,23 @@ import { bits, valueText } from './values.mjs';
 
 const I32 = 0x7f;
 const I64 = 0x7e;
+/** @typedef {import('./module_types.mjs').GlobalType} GlobalType */
+/** @typedef {import('./values.mjs').Value} Value */
+
+/** @type {{ [type: string]: { type: number, asInteger: number, reinterpret: number } }} */
 const FLOATS = {
   f32: { type: 0x7d, asInteger: I32, reinterpret: 0xbc },
   f64: { type: 0x7c, asInteger: I64, reinterpret: 0xbd },
 };
+/** @type {{ [type: string]: (pattern: any) => Value }} */
 const UNSIGNED = { f32: pattern => pattern >>> 0, f64: pattern => BigInt.asUintN(64, pattern) };
 
 /**
  * A function that gives the bits of a global. JavaScript makes signalling NaNs quiet when it reads a float, so a float
  * is read by a module of one function, which gives it as an integer.
+ * @param {WebAssembly.Global} global
+ * @param {GlobalType} globalType
+ * @returns {() => Value}
  */
 export function bitsReader(global, { type, mutable }) {
   const float = FLOATS[type];
@@ -25,10 +33,15 @@ export function bitsReader(global, { type, mutable }) {
     0x0a, 0x07, 0x01, 0x05, 0x00, 0x23, 0x00, float.reinterpret, 0x0b,
   );
   const { exports } = new WebAssembly.Instance(new WebAssembly.Module(bytes), { g: { g: global } });
-  return () => UNSIGNED[type](exports.b());
+  const read = /** @type {() => Value} */ (exports.b);
+  return () => UNSIGNED[type](read());
 }
 
-/** The bits of an imported global as the host gives it: a WebAssembly.Global, or a number for an immutable one. */
+/**
+ * The bits of an imported global as the host gives it: a WebAssembly.Global, or a number for an immutable one.
+ * @param {any} given
+ * @param {GlobalType} globalType
+ */
 export function givenBits(given, globalType) {
   if (given instanceof WebAssembly.Global) return bitsReader(given, globalType)();
   return bits(globalType.type, given);
@@ -36,10 +49,17 @@ export function givenBits(given, globalType) {
 
 export class GlobalChanges {
   constructor() {
+    /** @type {{ index: number, type: GlobalType['type'], target: string, read: () => Value, noted: Value }[]} */
     this.watched = [];
   }
 
-  /** Watches a mutable global of the module, once. `target` is how a script names it. */
+  /**
+   * Watches a mutable global of the module, once. `target` is how a script names it.
+   * @param {number} index
+   * @param {WebAssembly.Global} global
+   * @param {GlobalType} globalType
+   * @param {string} target
+   */
   watch(index, global, globalType, target) {
     if (this.watched.some(item => item.index === index)) return;
     const read = bitsReader(global, globalType);

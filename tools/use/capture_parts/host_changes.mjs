@@ -3,7 +3,9 @@ import { GlobalChanges } from './global_changes.mjs';
 
 export class HostChanges {
   constructor() {
+    /** @type {import('./memory_changes.mjs').MemoryChanges | null} */
     this.memory = null;
+    /** @type {import('./table_changes.mjs').TableChanges | null} */
     this.table = null;
     this.globals = new GlobalChanges();
   }
@@ -14,7 +16,11 @@ export class HostChanges {
     this.globals.look();
   }
 
-  /** The actions since control came to the host: the memory's growth and bytes, the table's, the globals. */
+  /**
+   * The actions since control came to the host: the memory's growth and bytes, the table's, the globals.
+   * @param {import('./addresses.mjs').AddressText} address
+   * @returns {string[]}
+   */
   actions(address) {
     return [...this.memory?.actions(address) ?? [], ...this.table?.actions() ?? [], ...this.globals.actions()];
   }

@@ -8,13 +8,21 @@ import { TYPE_BYTES } from './module_types.mjs';
 import { refuse } from './refusal.mjs';
 import { FOREIGN } from './script_text.mjs';
 
+/** @typedef {import('./module_functions.mjs').Func} Func */
+/** @typedef {import('./module_types.mjs').ValueType} ValueType */
+/** @typedef {{ params?: ValueType[], results?: ValueType[] }} Type */
+/** @typedef {{ name: string, params: ValueType[], results: ValueType[] }} Declaration */
+
 const MOST_PARAMS = 1000;
 
-const section = (id, bytes) => [id, ...number(bytes.length), ...bytes];
+const section = (/** @type {number} */ id, /** @type {number[]} */ bytes) => [id, ...number(bytes.length), ...bytes];
 
-/** A module that exports as `f` the function `h.f`, which it imports with this type. */
+/**
+ * A module that exports as `f` the function `h.f`, which it imports with this type.
+ * @param {Required<Type>} type
+ */
 function passingModule({ params, results }) {
-  const types = list => [...number(list.length), ...list.map(type => TYPE_BYTES[type])];
+  const types = (/** @type {ValueType[]} */ list) => [...number(list.length), ...list.map(type => TYPE_BYTES[type])];
   return new WebAssembly.Module(Uint8Array.from([
     0x00, 0x61, 0x73, 0x6d, 0x01, 0x00, 0x00, 0x00,
     ...section(1, [1, 0x60, ...types(params), ...types(results)]),
@@ -23,27 +31,51 @@ function passingModule({ params, results }) {
   ]));
 }
 
+/** @type {(list: any, most: number) => boolean} */
 const areTypes = (list, most) => Array.isArray(list) && list.length <= most && list.every(type => type in TYPE_BYTES);
 
 export class HostFunctions {
+  /**
+   * @param {import('./module_types.mjs').ModuleTypes} types
+   * @param {import('./crossings.mjs').Crossings} crossings
+   * @param {boolean} isDeclaring
+   */
   constructor(types, crossings, isDeclaring) {
-    Object.assign(this, { types, crossings, isDeclaring });
-    /** The declarations, by the functions as a table takes them. */
+    this.types = types;
+    this.crossings = crossings;
+    this.isDeclaring = isDeclaring;
+    /**
+     * The declarations, by the functions as a table takes them.
+     * @type {Map<Func, Declaration>}
+     */
     this.made = new Map();
   }
 
-  /** What the host's file calls as `context.hostFunction`: gives `func` as a function that a table takes. */
+  /**
+   * What the host's file calls as `context.hostFunction`: gives `func` as a function that a table takes.
+   * @param {string} name
+   * @param {Type | undefined} type
+   * @param {Func} func
+   * @returns {Func}
+   */
   make(name, { params = [], results = [] } = {}, func) {
     return this.crossings.guarded(() => {
       this.refuseFault(name, params, results, func);
       const type = { params, result: results[0] ?? null };
       const answering = this.crossings.functionInTable(name, type, func);
-      const { f } = engine.instance(passingModule({ params, results }), { h: { f: answering } }).exports;
+      const { exports } = engine.instance(passingModule({ params, results }), { h: { f: answering } });
+      const f = /** @type {Func} */ (exports.f);
       this.made.set(f, { name, params, results });
       return f;
     });
   }
 
+  /**
+   * @param {unknown} name
+   * @param {unknown} params
+   * @param {unknown} results
+   * @param {unknown} func
+   */
   refuseFault(name, params, results, func) {
     const where = `the host's function ${JSON.stringify(name)}`;
     if (!this.isDeclaring) refuse(`${where}: --decls FILE captures it`);
@@ -60,12 +92,14 @@ export class HostFunctions {
     if (isTaken) refuse(`${where}: an export or an earlier one of these functions has its name`);
   }
 
+  /** @param {Func} func */
   has(func) {
     return this.made.has(func);
   }
 
+  /** @param {Func} func */
   name(func) {
-    return this.made.get(func).name;
+    return /** @type {Declaration} */ (this.made.get(func)).name;
   }
 
   /** The declarations as r3 reads them, one a line. */

@@ -1,6 +1,10 @@
 /** What the host changes in the memory while it has control: growth, and the bytes that differ from what was there. */
 import { refuse } from './refusal.mjs';
 
+/** @typedef {[begin: number, end: number]} Range */
+/** @typedef {import('./addresses.mjs').AddressText} AddressText */
+/** @typedef {{ take(length: number, margin: number): Range[] }} Regions */
+
 export const PAGE = 65536;
 const MOST_PAGES = 4096;
 
@@ -16,10 +20,19 @@ const MARGIN = 16384;
 /** A run of changed bytes goes on over this many bytes that did not change: to begin a new write takes more text. */
 const JOIN = 8;
 
+/** @type {(one: Buffer, other: Buffer, from: number, to: number) => boolean} */
 const differ = (one, other, from, to) => one.compare(other, from, to, from, to) !== 0;
 
-/** The parts whose bytes differ, within ranges of whole parts: both as lists of `[begin, end]`. */
+/**
+ * The parts whose bytes differ, within ranges of whole parts: both as lists of `[begin, end]`.
+ * @param {Buffer} one
+ * @param {Buffer} other
+ * @param {Range[]} ranges
+ * @param {number[]} sizes
+ * @returns {Range[]}
+ */
 function differingParts(one, other, ranges, [size, ...smaller]) {
+  /** @type {Range[]} */
   const parts = [];
   for (const [begin, end] of ranges) {
     for (let at = begin; at < end; at += size) {
@@ -30,11 +43,18 @@ function differingParts(one, other, ranges, [size, ...smaller]) {
   return smaller.length === 0 || parts.length === 0 ? parts : differingParts(one, other, parts, smaller);
 }
 
-/** The runs of bytes that differ in these parts, as `[begin, end]` in order of address. */
+/**
+ * The runs of bytes that differ in these parts, as `[begin, end]` in order of address.
+ * @param {Buffer} one
+ * @param {Buffer} other
+ * @param {Range[]} parts
+ */
 function differingRuns(one, other, parts) {
   const words = new Int32Array(one.buffer, one.byteOffset, one.length / 4);
   const otherWords = new Int32Array(other.buffer, other.byteOffset, other.length / 4);
+  /** @type {Range[]} */
   const runs = [];
+  /** @type {Range | null} */
   let last = null;
   for (const [begin, end] of parts) {
     for (let word = begin / 4; word < end / 4; word++) {
@@ -53,9 +73,13 @@ export class MemoryChanges {
   /**
    * `memory` is imported or exported, so that the host reaches it. `regions` says where the module writes to it, or is
    * null where nothing does.
+   * @param {WebAssembly.Memory} memory
+   * @param {Regions | null} regions
    */
   constructor(memory, regions) {
-    Object.assign(this, { memory, regions, noted: Buffer.alloc(0) });
+    this.memory = memory;
+    this.regions = regions;
+    this.noted = Buffer.alloc(0);
   }
 
   now() {
@@ -66,7 +90,10 @@ export class MemoryChanges {
     return now;
   }
 
-  /** The noted bytes, with zeros behind them up to the memory's length. */
+  /**
+   * The noted bytes, with zeros behind them up to the memory's length.
+   * @param {number} length
+   */
   extended(length) {
     if (this.noted.length < length) {
       const longer = Buffer.alloc(length);
@@ -76,7 +103,11 @@ export class MemoryChanges {
     return this.noted;
   }
 
-  /** Notes these parts of the memory as they are. */
+  /**
+   * Notes these parts of the memory as they are.
+   * @param {Buffer} now
+   * @param {Range[]} parts
+   */
   note(now, parts) {
     for (const [begin, end] of parts) this.noted.set(now.subarray(begin, end), begin);
   }
@@ -84,6 +115,7 @@ export class MemoryChanges {
   /** Notes the memory as it is when control comes to the host: the module has written since it was noted last. */
   look() {
     const now = this.now();
+    /** @type {Range[]} */
     const ranges = this.regions?.take(now.length, MARGIN) ?? [[0, now.length]];
     this.note(now, differingParts(now, this.extended(now.length), ranges, SIZES_WRITTEN));
   }
@@ -95,13 +127,20 @@ export class MemoryChanges {
     return differingRuns(now, zeros, differingParts(now, zeros, [[0, now.length]], SIZES));
   }
 
-  /** A write of each of these runs, with the bytes that are there. `address` gives an address as a script has it. */
+  /**
+   * A write of each of these runs, with the bytes that are there. `address` gives an address as a script has it.
+   * @param {Range[]} runs
+   * @param {AddressText} address
+   */
   writes(runs, address) {
     const now = this.now();
     return runs.map(([begin, end]) => `{"write":${address(begin)},"bytes":"${now.toString('hex', begin, end)}"}`);
   }
 
-  /** The actions that make the noted memory the one that is there, which is noted then. */
+  /**
+   * The actions that make the noted memory the one that is there, which is noted then.
+   * @param {AddressText} address
+   */
   actions(address) {
     const now = this.now();
     const grown = (now.length - this.noted.length) / PAGE;

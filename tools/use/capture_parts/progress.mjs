@@ -2,12 +2,14 @@
 const EVERY = 250;
 
 export class Progress {
+  /** @param {{ isTTY?: boolean, write(text: string): unknown }} stream */
   constructor(stream) {
     this.stream = stream.isTTY ? stream : null;
     this.next = Date.now() + EVERY;
     this.shown = false;
   }
 
+  /** @param {import('./script_text.mjs').Script} script */
   show(script) {
     if (this.stream === null || Date.now() < this.next) return;
     this.next = Date.now() + EVERY;
@@ -17,7 +19,7 @@ export class Progress {
 
   /** Takes the shown line away. */
   clear() {
-    if (this.shown) this.stream.write('\r\x1b[K');
+    if (this.shown) this.stream?.write('\r\x1b[K');
     this.shown = false;
   }
 }

@@ -1,7 +1,11 @@
 /** Thrown where a run cannot be written as a script. Its message is one line that says what and where. */
 export class Refusal extends Error {}
 
-/** Throws a refusal with this line. */
+/**
+ * Throws a refusal with this line.
+ * @param {string} line
+ * @returns {never}
+ */
 export function refuse(line) {
   throw new Refusal(line);
 }

@@ -6,9 +6,19 @@ import { refuse } from './refusal.mjs';
 import { TableChanges } from './table_changes.mjs';
 import { valueText } from './values.mjs';
 
+/** @typedef {import('./module_types.mjs').Import} Import */
+/** @typedef {import('./module_types.mjs').GlobalImport} GlobalImport */
+/** @typedef {import('./memory_changes.mjs').Range} Range */
+
+/** @type {(item: Import) => string} */
 const where = ({ index, module, name }) => `import ${index} (${module}.${name})`;
 
-/** `,"max":N`, or nothing where the object has no maximum. */
+/**
+ * `,"max":N`, or nothing where the object has no maximum.
+ * @param {Import} item
+ * @param {object} object
+ * @param {import('./javascript_interface.mjs').JavascriptInterface} interface_
+ */
 function maximumText(item, object, interface_) {
   const maximum = interface_.maxima.get(object);
   if (maximum === undefined) {
@@ -19,19 +29,38 @@ function maximumText(item, object, interface_) {
 
 /** Takes what the host gives, and is asked for what the engine is to get for each import. */
 export class Supply {
+  /**
+   * @param {import('./module_types.mjs').ModuleTypes} types
+   * @param {import('./script_text.mjs').Script} script
+   * @param {import('./host_changes.mjs').HostChanges} changes
+   * @param {import('./crossings.mjs').Crossings} crossings
+   * @param {import('./module_functions.mjs').ModuleFunctions} functions
+   * @param {import('./host_functions.mjs').HostFunctions} hostFunctions
+   * @param {import('./javascript_interface.mjs').JavascriptInterface} interface_
+   */
   constructor(types, script, changes, crossings, functions, hostFunctions, interface_) {
-    Object.assign(this, { types, script, changes, crossings, functions, hostFunctions, interface_ });
+    this.types = types;
+    this.script = script;
+    this.changes = changes;
+    this.crossings = crossings;
+    this.functions = functions;
+    this.hostFunctions = hostFunctions;
+    this.interface_ = interface_;
+    /** @type {Range[]} */
     this.filled = [];
     this.functionCount = 0;
     this.globalCount = 0;
+    /** @type {Map<WebAssembly.Global, number>} */
     this.mutableGlobals = new Map();
   }
 
   /**
    * The imports for the engine. It asks for each one once, in order, so that those of equal names are kept apart by how
    * often they have been asked for.
+   * @param {any} given
    */
   imports(given) {
+    /** @type {Map<string, unknown[]>} */
     const waiting = new Map();
     const modules = Object.create(null);
     for (const item of this.types.imports) {
@@ -40,21 +69,33 @@ export class Supply {
       const value = this.taken(item, given?.[module]?.[name]);
       waiting.set(key, [...waiting.get(key) ?? [], value]);
       modules[module] ??= Object.create(null);
-      Object.defineProperty(modules[module], name, { get: () => waiting.get(key).shift(), configurable: true });
+      Object.defineProperty(modules[module], name, { get: () => waiting.get(key)?.shift(), configurable: true });
     }
     return modules;
   }
 
+  /**
+   * @param {Import} item
+   * @param {unknown} value
+   */
   taken(item, value) {
     if (value === undefined) refuse(`${where(item)}: the host gives nothing for it`);
-    return this[item.kind](item, value);
+    return item.kind === 'global' ? this.global(item, value) : this[item.kind](item, value);
   }
 
+  /**
+   * @param {Import} item
+   * @param {any} value
+   */
   function(item, value) {
     if (typeof value !== 'function') refuse(`${where(item)}: the host gives no function for it`);
     return this.crossings.importedFunction(this.functionCount++, value);
   }
 
+  /**
+   * @param {Import} item
+   * @param {unknown} memory
+   */
   memory(item, memory) {
     if (!(memory instanceof WebAssembly.Memory)) refuse(`${where(item)}: the host gives no memory for it`);
     const pages = memory.buffer.byteLength / PAGE;
@@ -67,6 +108,10 @@ export class Supply {
     return memory;
   }
 
+  /**
+   * @param {Import} item
+   * @param {unknown} table
+   */
   table(item, table) {
     if (!(table instanceof WebAssembly.Table)) refuse(`${where(item)}: the host gives no table for it`);
     this.script.supply('table', `{"size":${table.length}${maximumText(item, table, this.interface_)}}`);
@@ -81,6 +126,10 @@ export class Supply {
     return table;
   }
 
+  /**
+   * @param {GlobalImport} item
+   * @param {any} value
+   */
   global(item, value) {
     const index = this.globalCount++;
     const isGlobal = value instanceof WebAssembly.Global;
@@ -95,14 +144,23 @@ export class Supply {
     return value;
   }
 
+  /**
+   * @param {GlobalImport} item
+   * @param {unknown} value
+   */
   bits(item, value) {
     try {
       return givenBits(value, item);
-    } catch (error) {
+    } catch (/** @type {any} */ error) {
       return refuse(`${where(item)}: the host gives another global: ${error.message}`);
     }
   }
 
+  /**
+   * @param {GlobalImport} item
+   * @param {number} index
+   * @param {WebAssembly.Global} value
+   */
   mutableGlobal(item, index, value) {
     if (this.mutableGlobals.has(value)) {
       refuse(`${where(item)}: the same mutable global as import ${this.mutableGlobals.get(value)}`);

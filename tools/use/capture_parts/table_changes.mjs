@@ -2,16 +2,37 @@
 import { engine } from './javascript_interface.mjs';
 import { refuse } from './refusal.mjs';
 
+/** @typedef {import('./module_functions.mjs').Func} Func */
+
 const MOST_ENTRIES = 1000000;
 
 export class TableChanges {
   /**
    * `table` is imported or exported. `functions` knows the module's functions, and `hostFunctions` those of the host's
    * own. `before` has the functions that an imported table had before the module was instantiated.
+   * @param {WebAssembly.Table} table
+   * @param {import('./module_functions.mjs').ModuleFunctions} functions
+   * @param {import('./host_functions.mjs').HostFunctions} hostFunctions
+   * @param {import('./javascript_interface.mjs').JavascriptInterface} interface_
+   * @param {Set<Func | null>} before
    */
   constructor(table, functions, hostFunctions, interface_, before) {
-    Object.assign(this, { table, functions, hostFunctions, interface_, before, noted: null, places: new Map() });
-    /** The actions that put functions of the host's own where instantiation has left them. */
+    this.table = table;
+    this.functions = functions;
+    this.hostFunctions = hostFunctions;
+    this.interface_ = interface_;
+    this.before = before;
+    /**
+     * The entries as they were last, or null before instantiation is over.
+     * @type {(Func | null)[] | null}
+     */
+    this.noted = null;
+    /** @type {Map<Func, number>} */
+    this.places = new Map();
+    /**
+     * The actions that put functions of the host's own where instantiation has left them.
+     * @type {string[]}
+     */
     this.filled = [];
   }
 
@@ -33,12 +54,16 @@ export class TableChanges {
     this.interface_.takeTouched(this.table);
   }
 
+  /** @param {number} index */
   refuseForeign(index) {
     const cure = '--decls FILE captures those that context.hostFunction makes';
     refuse(`entry ${index} of the table: a function of the host's own; ${cure}`);
   }
 
-  /** The place of a function in the table, or -1. */
+  /**
+   * The place of a function in the table, or -1.
+   * @param {Func} func
+   */
   place(func) {
     const last = this.places.get(func) ?? -1;
     if (last !== -1 && engine.entry(this.table, last) === func) return last;
@@ -56,19 +81,29 @@ export class TableChanges {
     if (now.length > MOST_ENTRIES) {
       refuse(`the table has grown to ${now.length} entries, where r3 takes at most ${MOST_ENTRIES}`);
     }
-    const grown = now.length - this.noted.length;
-    const changed = (func, index) => func !== (this.noted[index] ?? null);
+    /** @type {(Func | null)[]} */
+    const noted = this.noted ?? [];
+    const grown = now.length - noted.length;
+    const changed = (/** @type {Func | null} */ func, /** @type {number} */ index) => func !== (noted[index] ?? null);
     const sets = now.flatMap((func, index) => (changed(func, index) ? [this.setting(index, func)] : []));
     this.noted = now;
     return grown > 0 ? [`{"grow_table":${grown}}`, ...sets] : sets;
   }
 
+  /**
+   * @param {number} index
+   * @param {Func | null} func
+   */
   setting(index, func) {
     const name = func === null ? null : this.name(index, func);
     return `{"set_table":${index},"func":${JSON.stringify(name)}}`;
   }
 
-  /** The name of the function of an entry, as a script gives it. */
+  /**
+   * The name of the function of an entry, as a script gives it.
+   * @param {number} index
+   * @param {Func} func
+   */
   name(index, func) {
     if (this.hostFunctions.has(func)) return this.hostFunctions.name(func);
     if (!this.functions.has(func)) this.refuseForeign(index);
