@@ -27,7 +27,7 @@ use Rattle.r3_instances.specs.RecordedModules.{CanBeRecorded, CanBeWidened, IsFr
 use Rattle.r3_instances.specs.declared.declared_modules.DeclaredModule.{DeclaredModule}
 
 -- declarations have at least as great a size as there are of them
-decls_few : (decls : List Decl) → length decls ≤ decls_size decls
+pub decls_few : (decls : List Decl) → length decls ≤ decls_size decls
 decls_few [] = omega arith
 decls_few (d ∷ decls) = let more = decls_few decls in omega (arith, more)
 

@@ -1,2 +1,2 @@
-mod OneAnswer
+pub mod OneAnswer
 pub mod FaultCases
