@@ -34,8 +34,9 @@ use Rattle.sha2.specs.Sha256.{sha256}
 use Rattle.r3_instrument.specs.InstrumentedBytes as hooked
 use Rattle.r3_instrument.specs.InstrumentedBytes.{IsHookedRefusal}
 use Rattle.r3_record.specs.LogFiles as logs
-use Rattle.r3_record.specs.LogFiles.{HasNoModuleLog, IsLogRefusal, record_fault}
-use Rattle.r3_record.proofs.FaultCases.{by_cause as of_record}
+use Rattle.r3_record.specs.LogFiles.{HasNoModuleLog, IsLogRefusal}
+use Rattle.accepted_runs.specs.Runs.{run_fault}
+use Rattle.accepted_runs.proofs.FaultCases.{by_cause as of_record}
 use Rattle.trace_model.specs.Weight.{tape_weight}
 use Rattle.r3_reduce.specs.TapeFiles.{IsReduceRefusal}
 use Rattle.r3_build.specs.BuildRefusals as tapes
@@ -177,7 +178,7 @@ unlogged-status m script turns fault (logs.OfScript form has_form refused) =
 unlogged-status m script turns fault (logs.OfLog form has_form played is_script (logs.OfLink u)) =
     named-other fault (unlinked.link_fault u.found) u.named (link-other u.found u.differs)
 unlogged-status m script turns fault (logs.OfLog form has_form played is_script (logs.OfRun supply store links u)) =
-    named-other fault (record_fault turns u.found) u.named
+    named-other fault (run_fault turns u.found) u.named
     (of_record (λ fault. is_other (status_of fault) ≡ true) turns (λ turn kind. refl) refl (λ number. refl) u.found u.differs)
 
 record-status : (h s : List ℕ) (turns : ℕ) (fault : Fault) → IsLogRefusal h s turns fault → IsOther (status_of fault)

@@ -4,8 +4,10 @@ use Rattle.std.specs.Str.{IsUtf8}
 use Rattle.wasm_syntax.specs.declared.forms.Form.TheVariants.{Core}
 use Rattle.wasm_syntax.specs.declared.limits.TheConstants.{MAX_FILE_BYTES}
 use Rattle.wasm_syntax.specs.declared.modules.Module.{Module}
-use Rattle.wasm_syntax.specs.Encoding.Laws.{EncodableInCore, EncodedIsEncodable, NoneIsShorter}
-use Rattle.wasm_syntax.specs.ListsWithin.{HasListsWithin}
+use Rattle.wasm_syntax.specs.Encoding.Laws.{EncodableInCore, EncodableIsEncoded, EncodedIsEncodable, NoneIsShorter, ReplayIsInCore}
+use Rattle.wasm_syntax.specs.Encoding.Modules.{Encodes}
+use Rattle.wasm_syntax.specs.Encoding.Shortest.{encoding_of}
+use Rattle.wasm_syntax.specs.ListsWithin.{HasListsWithin, ListsAreWithinEncoding}
 use Rattle.wasm_syntax.specs.Profile.{IsSupported}
 use Rattle.wasm_syntax.proofs.FuncTypes.{func_count_is}
 use Rattle.wasm_flat.specs.Sizes.{IsShort}
@@ -19,6 +21,7 @@ use Rattle.decl_text.specs.Laws.{DeclarationsAreWithinTexts, DeclarationsFit}
 use Rattle.decl_text.specs.Texts.{decls_of_text}
 use Rattle.r3_faults.specs.declared.faults.Fault.{Fault}
 use Rattle.r3_inputs.specs.Inputs.{IsModuleOf}
+use Rattle.r3_make.specs.Records.{IsOriginalModule}
 use Rattle.r3_instances.specs.ForeignInputs.{widened_of}
 use Rattle.r3_instances.specs.RecordedModules.{CanBeRecorded, CanBeWidened, IsFromFile}
 use Rattle.r3_instances.specs.declared.declared_modules.DeclaredModule.{DeclaredModule}
@@ -98,4 +101,19 @@ can_be_recorded accepted core encodable short supported within in_core declared 
       core = core m decls (in_core m file.encodable);
       encodable = encodable.core_form m decls file.encodable file.accepted.valid is.writable;
       within = within m decls file.within is.size;
+    }
+
+-- a module that can be recorded has an encoding, its shortest one
+pub original_module : (m : Module) → CanBeRecorded m → EncodableIsEncoded → ReplayIsInCore → ListsAreWithinEncoding
+    → IsOriginalModule m
+original_module m can encoded in_core lists =
+    let is : Encodes Core (encoding_of m) m =
+    let small = can.within in encoded Core m (in_core m can.encodable can.core) (omega (arith, small))
+    in
+    record {
+      bytes = encoding_of m;
+      is_module = record { encoded = is; accepted = can.accepted };
+      small = can.within;
+      within = lists Core (encoding_of m) m is;
+      has_bytes = can.bytes;
     }

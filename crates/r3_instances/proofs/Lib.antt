@@ -6,3 +6,4 @@ pub mod FileFacts
 pub mod PairFacts
 pub mod FileStages
 pub mod ReadDecls
+pub mod Commands

@@ -10,3 +10,4 @@ mod Rests
 mod StatesAndCuts
 mod RestBinaries
 mod OneRest
+mod Commands

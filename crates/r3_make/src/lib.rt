@@ -19,4 +19,4 @@ pub use r3_faults::Fault;
 pub use replay_binary::replay_of;
 pub use states_and_cuts::{StateAndCut, state_and_cut};
 pub use summaries::load_summary;
-pub use tapes::needed_tape;
+pub use tapes::{SuppliedTape, needed_tape};

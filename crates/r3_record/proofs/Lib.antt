@@ -1,4 +1,2 @@
 mod OneLog
-mod ModuleAnswers
 mod Forms
-pub mod FaultCases

@@ -14,12 +14,13 @@ use Rattle.host_play.specs.declared.results.PlayFault.{PlayFault}
 use Rattle.host_play.specs.declared.results.PlayFault.TheVariants as refusal
 use Rattle.run_recorder.specs.Records.{RecordedRun, IsLog}
 use Rattle.replay_theorem.specs.RecordLaws.{RecordsAreOne}
+use Rattle.accepted_runs.specs.Runs.{run_fault}
 use Rattle.accepted_runs.proofs.OneResult.{linked-unlinked, one-store, unlinked-one}
 use Rattle.r3_faults.specs.declared.faults.Fault.{Fault}
 use Rattle.r3_faults.specs.Answers.{IsCaused, IsExact}
 use Rattle.r3_faults.proofs.OneAnswer.{exact_answer}
 use Rattle.r3_inputs.specs.Inputs.{IsRefusedScript, script_fault}
-use Rattle.r3_record.specs.LogFiles.{HasLogFile, HasNoLogFile, OfLink, OfRun, HasModuleLog, HasNoModuleLog, OfForm, OfScript, OfLog, IsRefusal, record_fault, run_of}
+use Rattle.r3_record.specs.LogFiles.{HasLogFile, HasNoLogFile, OfLink, OfRun, HasModuleLog, HasNoModuleLog, OfForm, OfScript, OfLog, IsRefusal, run_of}
 
 -- ---- values that differ, and that are the same
 
@@ -49,7 +50,7 @@ module _ (one : RecordsAreOne) (m : Module) (turns : ℕ) where
   refusal-one r f g x y =
       let same = one r (refused x.found) (refused y.found) (λ e. x.differs (refused-one x.found refusal.Memory e))
       (λ e. y.differs (refused-one y.found refusal.Memory e)) x.refused y.refused in
-      x.named ∙ ap (record_fault turns) (refused-one x.found y.found same) ∙ sym y.named
+      x.named ∙ ap (run_fault turns) (refused-one x.found y.found same) ∙ sym y.named
 
   log-refusal : (r : RecordedRun) (log : Log) (fault : Fault) → IsLog r log.outcome log → IsRefusal r turns fault → ⊥
   log-refusal r log fault x y =

@@ -19,9 +19,10 @@ use Rattle.host_play.specs.declared.results.PlayFault.TheVariants as refusal
 use Rattle.run_recorder.specs.Records.{RecordedRun, IsLog, RefusesRecord}
 use Rattle.replay_theorem.specs.RecordLaws.{recorded_run}
 use Rattle.accepted_runs.specs.Linked.{IsLinked}
+use Rattle.accepted_runs.specs.Runs.{run_fault}
 use Rattle.accepted_runs.specs.Unlinked.{IsUnlinkedFor}
 use Rattle.r3_faults.specs.declared.faults.Fault.{Fault}
-use Rattle.r3_faults.specs.declared.faults.Fault.TheVariants.{Script as ScriptFault, Spent, Memory, NotHooked, HookOrder}
+use Rattle.r3_faults.specs.declared.faults.Fault.TheVariants.{NotHooked}
 use Rattle.r3_inputs.specs.declared.module_files.ModuleFile.TheVariants.{Instrumented}
 use Rattle.r3_inputs.specs.Inputs.{IsModuleIn, IsRefusedIn, IsRefusedScript}
 
@@ -46,17 +47,10 @@ pub record CanBeRecorded (m : Module) (form : HookedForm) (script : Script) : Ty
 abbrev pub run_of : Module → HookedForm → Script → Store → (turns : ℕ) → RecordedRun
 run_of m form script store turns = recorded_run m script store None form.imports turns
 
--- a call's fault for a run that has no log
-abbrev pub record_fault : (turns : ℕ) → PlayFault → Fault
-record_fault turns (refusal.Fault turn kind) = ScriptFault turn kind
-record_fault turns refusal.Spent = Spent turns
-record_fault turns (refusal.Hook number) = HookOrder number
-record_fault turns refusal.Memory = Memory
-
 -- the fault reports why the run has no log
 pub record IsRefusal (run : RecordedRun) (turns : ℕ) (fault : Fault) : Type 0 where
   pub found : PlayFault
-  pub named : fault ≡ record_fault turns found
+  pub named : fault ≡ run_fault turns found
   pub differs : found ≢ refusal.Memory
   pub refused : RefusesRecord run found
 

@@ -13,11 +13,11 @@ ghost use Rattle.wasm_flat.specs.FlatCode.{flat_of};
 ghost use Rattle.host_play.specs.HookedResults.{HasHooksAfter};
 ghost use Rattle.run_recorder.specs.Records.{IsLog};
 ghost use Rattle.r3_faults.specs.declared.faults.Fault.TheVariants.{Memory};
-ghost use Rattle.r3_record.specs.LogFiles.{CanBeRecorded, HasLogFile, HasNoLogFile, IsRefusal, record_fault, run_of};
+ghost use Rattle.r3_record.specs.LogFiles.{CanBeRecorded, HasLogFile, HasNoLogFile, IsRefusal, run_of};
 
-use accepted_runs::supply_and_store;
+use accepted_runs::{run_fault, supply_and_store};
 use hook_insert::HookedForm;
-use host_play::{Play, PlayFault, RunSettings};
+use host_play::{Play, RunSettings};
 use host_script::{Script, Supply};
 use r3_faults::Fault;
 use replay_theorem::logs_have_spellings;
@@ -123,19 +123,7 @@ fn log_of_play(alloc: Global, run: HookedRun<'_>, supply: &Supply, play: Play) -
     };
     match record_log(alloc, run.checked, supply, play, &settings) {
         Ok(log) => Ok(log),
-        Err(fault) => Err(record_fault(fault, run.turns)),
-    }
-}
-
-/// The call's fault for a run that has no log.
-fn record_fault(fault: PlayFault, turns: u64) -> Fault
-    ensures { result ≡ record_fault turns fault }
-{
-    match fault {
-        PlayFault::Fault { turn, kind } => Fault::Script { turn, kind },
-        PlayFault::Spent => Fault::Spent { turns },
-        PlayFault::Hook { number } => Fault::HookOrder { number },
-        PlayFault::Memory => Fault::Memory,
+        Err(fault) => Err(run_fault(fault, run.turns)),
     }
 }
 

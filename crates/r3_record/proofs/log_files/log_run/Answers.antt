@@ -1,22 +1,43 @@
-use Rattle.std.proofs.Common.{◌≡◌, ◌⊎◌, arith, inl, inr}
-use Rattle.std.proofs.lemmas.Result.{IfErr-weaker, IfOk-weaker}
-use Rattle.r3_faults.specs.declared.faults.Fault.TheVariants.{Memory}
+use Rattle.std.proofs.Common.{◌⊎◌, inl, inr, ℕ, List, arith}
+use Rattle.wasm_syntax.specs.declared.modules.Module.{Module}
+use Rattle.r3_faults.specs.declared.faults.Fault.{Fault}
+use Rattle.r3_inputs.specs.declared.module_files.ModuleFile.TheVariants.{Instrumented}
+use Rattle.r3_inputs.specs.Inputs.{IsModuleIn, IsRefusedIn}
+use Rattle.r3_inputs.proofs.TextStages.{AreTextStages, text_goes_on, text_stopped}
 use Rattle.r3_record.specs.LogFiles.{HasModuleLog, HasNoModuleLog, IsLogFile, IsLogRefusal, OfModule, OfModuleLog}
-use Rattle.r3_inputs.proofs.AnswerLemmas.{passed_exact}
-use Rattle.r3_record.proofs.ModuleAnswers.{log-same, none-same, refusal-answer}
 use Rattle.r3_record.proofs.log_files.log_run.Goals as goal
+
+module _ (hooked_bytes script_bytes : List ℕ) (turns : ℕ) where
+  refusal_parts : (fault : Fault) → IsLogRefusal hooked_bytes script_bytes turns fault
+      → IsRefusedIn Instrumented hooked_bytes fault
+      ⊎ ((m : Module) × IsModuleIn Instrumented hooked_bytes m × HasNoModuleLog m script_bytes turns fault)
+  refusal_parts fault (OfModule refused) = inl refused
+  refusal_parts fault (OfModuleLog m is_module none) = inr (m, is_module, none)
+
+  stages : AreTextStages (IsModuleIn Instrumented hooked_bytes) (IsRefusedIn Instrumented hooked_bytes)
+      (λ m text. HasModuleLog m script_bytes turns text) (λ m fault. HasNoModuleLog m script_bytes turns fault)
+      (IsLogFile hooked_bytes script_bytes turns) (IsLogRefusal hooked_bytes script_bytes turns)
+  stages = record {
+    whole = λ m text is_module logged. record { m = m; is_module = is_module; logged = logged };
+    first_refused = λ fault refused. OfModule refused;
+    next_refused = λ m fault is_module none. OfModuleLog m is_module none;
+    refused_parts = refusal_parts;
+  }
+
+  parts : (text : List ℕ) → IsLogFile hooked_bytes script_bytes turns text
+      → (m : Module) × IsModuleIn Instrumented hooked_bytes m × HasModuleLog m script_bytes turns text
+  parts text is = (is.m, is.is_module, is.logged)
 
 pub returns-in_err-checked : goal.returns-in_err-checked
 returns-in_err-checked c =
-    passed_exact c.module_in.result c.in_err-checked.field-0.0 c.in_err-checked.was
-    (IsLogFile c.args.hooked.now c.args.script.now c.args.turns) (IsLogRefusal c.args.hooked.now c.args.script.now c.args.turns) c.from_residual.result
-    c.from_residual.ensures.1
-    (elim c.in_err-checked.ensures.cause [ inl memory ↦ inl memory | inr refused ↦ inr (OfModule refused) ])
-    (λ fault refusal.
-    refusal-answer c.args.hooked.now c.args.script.now c.args.turns c.module_in.result c.module_in.ensures.refused
-    c.module_in.ensures.accepted c.in_err-checked.field-0.0 c.in_err-checked.was c.from_residual.result
-    c.from_residual.ensures.1 fault refusal)
-    (λ text shown. (shown.m, c.module_in.ensures.accepted shown.m shown.is_module))
+    text_stopped (stages c.args.hooked.now c.args.script.now c.args.turns) c.module_in.result
+    (record {
+      taken = c.module_in.ensures.taken;
+      cause = c.module_in.ensures.cause;
+      refused = c.module_in.ensures.refused;
+      accepted = c.module_in.ensures.accepted;
+    }) c.from_residual.result c.in_err-checked.field-0.0 c.in_err-checked.was c.from_residual.ensures.1
+    (parts c.args.hooked.now c.args.script.now c.args.turns)
 
 pub log_file-requires : goal.log_file-requires
 log_file-requires c =
@@ -33,30 +54,11 @@ log_file-requires c =
 
 pub returns : goal.returns
 returns c =
-    record {
-      cause =
-          IfErr-weaker c.log_file.result
-          (λ fault. (fault ≡ Memory) ⊎ HasNoModuleLog c.in_ok-checked.checked c.args.script.now c.args.turns fault)
-          (λ fault. (fault ≡ Memory) ⊎ IsLogRefusal c.args.hooked.now c.args.script.now c.args.turns fault)
-          (λ fault either. elim either [
-            | inl memory ↦ inl memory
-            | inr none ↦ inr (OfModuleLog c.in_ok-checked.checked c.in_ok-checked.ensures.taken none)
-          ])
-          c.log_file.ensures.cause;
-      refused =
-          λ fault refusal.
-          c.log_file.ensures.refused fault
-          (none-same c.args.hooked.now c.args.script.now c.args.turns c.module_in.result c.module_in.ensures.refused
-          c.module_in.ensures.accepted c.in_ok-checked.checked c.in_ok-checked.was fault refusal);
-      printed =
-          IfOk-weaker c.log_file.result (λ bytes. HasModuleLog c.in_ok-checked.checked c.args.script.now c.args.turns bytes.items)
-          (λ bytes. IsLogFile c.args.hooked.now c.args.script.now c.args.turns bytes.items)
-          (λ bytes logged. record { m = c.in_ok-checked.checked; is_module = c.in_ok-checked.ensures.taken; logged = logged })
-          c.log_file.ensures.printed;
-      accepted =
-          λ file logged.
-          c.log_file.ensures.accepted file
-          (log-same c.args.hooked.now c.args.script.now c.args.turns c.module_in.result c.module_in.ensures.refused
-          c.module_in.ensures.accepted c.in_ok-checked.checked c.in_ok-checked.was file logged.m logged.is_module
-          logged.logged);
-    }
+    text_goes_on (stages c.args.hooked.now c.args.script.now c.args.turns) c.module_in.result
+    (record {
+      taken = c.module_in.ensures.taken;
+      cause = c.module_in.ensures.cause;
+      refused = c.module_in.ensures.refused;
+      accepted = c.module_in.ensures.accepted;
+    }) c.log_file.result c.in_ok-checked.checked c.in_ok-checked.was
+    (parts c.args.hooked.now c.args.script.now c.args.turns) c.log_file.ensures
