@@ -227,20 +227,20 @@ module _ {U V W : Type 0} (contents later : Option FileMap) (fb fm fn tb tm tn :
 -- ---- the job of a variant
 
 module _ {Y Z : Type 0} (contents : Option FileMap) (reading : Reading) (job here : Job (Bor (String Y))) (is : job ≡ here)
-    where
-  -- what a call that loads the files of a job ensures
-  abbrev pub LoadsJob : Job (Bor (String Y)) → Result (Job (Vec ℕ Z)) Fault → Type 0
-  LoadsJob job r = IsLoading reading (files_of (named job)) (λ given. IsLoaded contents (named job) (bytes_of given)) r
+  where
+    -- what a call that loads the files of a job ensures
+    abbrev pub LoadsJob : Job (Bor (String Y)) → Result (Job (Vec ℕ Z)) Fault → Type 0
+    LoadsJob job r = IsLoading reading (files_of (named job)) (λ given. IsLoaded contents (named job) (bytes_of given)) r
 
-  pub job_stopped : {V : Type 0} (P : V → Type 0) (e : Fault) (q : Result (Job (Vec ℕ Z)) Fault)
-      → IsLoading reading (files_of (named here)) P (Err e) → IsErrAnd q (λ other. other ≡ e) → LoadsJob job q
-  job_stopped P e q loading passes =
-      subst (λ job. LoadsJob job q) (sym is)
-      (passed_on reading (files_of (named here)) P (λ given. IsLoaded contents (named here) (bytes_of given)) e q loading passes)
+    pub job_stopped : {V : Type 0} (P : V → Type 0) (e : Fault) (q : Result (Job (Vec ℕ Z)) Fault)
+        → IsLoading reading (files_of (named here)) P (Err e) → IsErrAnd q (λ other. other ≡ e) → LoadsJob job q
+    job_stopped P e q loading passes =
+        subst (λ job. LoadsJob job q) (sym is)
+        (passed_on reading (files_of (named here)) P (λ given. IsLoaded contents (named here) (bytes_of given)) e q loading passes)
 
-  pub job_loaded : {V : Type 0} (P : V → Type 0) (v : V) (given : Job (Vec ℕ Z))
-      → IsLoading reading (files_of (named here)) P (Ok v) → (P v → IsLoaded contents (named here) (bytes_of given))
-      → LoadsJob job (Ok given)
-  job_loaded P v given loading follows =
-      subst (λ job. LoadsJob job (Ok given)) (sym is)
-      (with_value reading (files_of (named here)) P (λ given. IsLoaded contents (named here) (bytes_of given)) v given loading follows)
+    pub job_loaded : {V : Type 0} (P : V → Type 0) (v : V) (given : Job (Vec ℕ Z))
+        → IsLoading reading (files_of (named here)) P (Ok v) → (P v → IsLoaded contents (named here) (bytes_of given))
+        → LoadsJob job (Ok given)
+    job_loaded P v given loading follows =
+        subst (λ job. LoadsJob job (Ok given)) (sym is)
+        (with_value reading (files_of (named here)) P (λ given. IsLoaded contents (named here) (bytes_of given)) v given loading follows)

@@ -5,7 +5,7 @@ use Rattle.r3_faults.specs.Answers.{IsExact, IsReplayAnswer}
 use Rattle.r3_faults.specs.declared.faults.Fault.{Fault}
 use Rattle.r3_core.specs.declared.jobs.Job.{Job}
 use Rattle.r3_core.specs.declared.jobs.Job.TheVariants.{Make, Instrument, Record, Reduce, Build, History, Replay, Show, Load, Foreign, ForeignHistory, Pair, PairHistory, From}
-use Rattle.r3_core.specs.Jobs.{form, files_of, map_files}
+use Rattle.r3_core.specs.Jobs.{form, files_of, map_files, without_files}
 use Rattle.r3_core.specs.Words.{AreInRange}
 use Rattle.r3_core.specs.Meanings.{IsAnswer}
 use Rattle.r3_core.specs.Causes.{AreWithin}
@@ -27,11 +27,13 @@ numbers_mapped f (Pair left right s turns) = refl
 numbers_mapped f (PairHistory left right s turns) = refl
 numbers_mapped f (From m s turns call) = refl
 
-pub in_range_with : (job given : Job (List ℕ)) → map_files (λ _. tt) given ≡ map_files (λ _. tt) job
+pub in_range_with : (job given : Job (List ℕ)) → without_files given ≡ without_files job
     → AreInRange (form job).numbers → AreInRange (form given).numbers
 in_range_with job given same all =
     subst AreInRange
-    (sym (numbers_mapped (λ _. tt) job) ∙ ap (λ job. (form job).numbers) (sym same) ∙ numbers_mapped (λ _. tt) given) all
+    (sym (numbers_mapped (λ _. tt {0}) job) ∙ ap (λ (job : Job (Unit {0})). (form job).numbers) (sym same)
+    ∙ numbers_mapped (λ _. tt {0}) given)
+    all
 
 -- a fact that a successful call leaves
 pub on_ok : {T E P : Type 0} (r : Result T E) → P → OnOk r P

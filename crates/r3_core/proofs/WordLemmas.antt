@@ -1,5 +1,5 @@
 -- How words are read: the words that say a job say no other one.
-use Rattle.std.proofs.Common.{◌≡◌, ℕ, suc, ◌+◌, ◌^◌, ◌<◌, ◌≤◌, true, false, List, [], ◌∷◌, ◌++◌, length, map, find, drop, take, get_or, decimal, refl, sym, ◌∙◌, ap, subst, arith, Option, Some, None, String, string_bytes}
+use Rattle.std.proofs.Common.{◌≡◌, ℕ, suc, ◌+◌, ◌^◌, ◌<◌, ◌≤◌, true, false, List, [], ◌∷◌, ◌++◌, length, map, find, drop, take, get_or, decimal, refl, sym, ◌∙◌, ap, subst, arith, Option, Some, None, Result, Ok, Err, IfErr, String, string_bytes}
 use Rattle.std.specs.List.{position_or_len}
 use Rattle.std.specs.Option.{option_map}
 use Rattle.std.proofs.Math.Seq.{drop-append_seam, drop-cons, take-append_seam}
@@ -155,6 +155,23 @@ module _ (name : List ℕ) (rest : List (List ℕ)) (job : Job (List ℕ)) (says
         (subst (λ (s : Shape). AreNumbers s.ranges (map (λ number. decimal number.0) (form job).numbers)) said-shape
         (in_words (form job).numbers says.in_range))
 
+-- the items of a list from a place on: one, or two
+pub one_left : {X : Type 0} (xs : List X) (k : ℕ) (x : X) → length xs ≡ suc k → x ≡ get_or xs k x → drop k xs ≡ x ∷ []
+one_left xs k x count is =
+    drop-cons xs k x (omega (arith, count)) ∙ ap (λ y. y ∷ drop (suc k) xs) (sym is)
+    ∙ ap (λ ys. x ∷ ys) (nothing_left xs (suc k) count)
+  where
+    nothing_left : {X : Type 0} (xs : List X) (k : ℕ) → length xs ≡ k → drop k xs ≡ []
+    nothing_left [] k count = subst (λ k. drop k [] ≡ []) count refl
+    nothing_left (x ∷ xs) k count =
+        subst (λ k. drop k (x ∷ xs) ≡ []) count (nothing_left xs (length xs) refl)
+
+pub two_left : {X : Type 0} (xs : List X) (k : ℕ) (x y : X) → length xs ≡ suc (suc k) → x ≡ get_or xs k x
+    → y ≡ get_or xs (suc k) y → drop k xs ≡ x ∷ y ∷ []
+two_left xs k x y count is next =
+    drop-cons xs k x (omega (arith, count)) ∙ ap (λ z. z ∷ drop (suc k) xs) (sym is)
+    ∙ ap (λ ys. x ∷ ys) (one_left xs (suc k) y count next)
+
 module _ {Y : Type 0} (words : List (String Y)) (name : String Y) (rest : List (String Y))
     (split : words ≡ name ∷ rest) where
   split_says : (job : Job (List ℕ)) → Says (texts words) job → Says (string_bytes name ∷ texts rest) job
@@ -182,22 +199,32 @@ module _ {Y : Type 0} (words : List (String Y)) (name : String Y) (rest : List (
         (subst (AreNumbers s.ranges) (drop-map string_bytes (length s.limits) rest)
         (said-numbers (string_bytes name) (texts rest) listed.0 (split_says listed.0 listed.1) s named))
 
--- the items of a list from a place on: one, or two
-pub one_left : {X : Type 0} (xs : List X) (k : ℕ) (x : X) → length xs ≡ suc k → x ≡ get_or xs k x → drop k xs ≡ x ∷ []
-one_left xs k x count is =
-    drop-cons xs k x (omega (arith, count)) ∙ ap (λ y. y ∷ drop (suc k) xs) (sym is)
-    ∙ ap (λ ys. x ∷ ys) (nothing_left xs (suc k) count)
-  where
-    nothing_left : {X : Type 0} (xs : List X) (k : ℕ) → length xs ≡ k → drop k xs ≡ []
-    nothing_left [] k count = subst (λ k. drop k [] ≡ []) count refl
-    nothing_left (x ∷ xs) k count =
-        subst (λ k. drop k (x ∷ xs) ≡ []) count (nothing_left xs (length xs) refl)
+  -- the word at the place of the only number is none of its range
+  pub unlisted_number : (limits : List ℕ) (range : NumberRange) (item : String Y) (word : List ℕ)
+      → shape_of_name (string_bytes name) ≡ Some (record { limits = limits; ranges = range ∷ [] })
+      → length rest ≡ suc (length limits) → item ≡ get_or rest (length limits) item → word ≡ string_bytes item
+      → ((number : ℕ) → ¬ (IsNumber range word number)) → ¬ (IsListed (texts words))
+  unlisted_number limits range item word named count is same unfit =
+      unlisted-numbers (record { limits = limits; ranges = range ∷ [] }) named
+      (λ numbers.
+      let here : AreNumbers (range ∷ []) (string_bytes item ∷ []) =
+      subst (λ items. AreNumbers (range ∷ []) (texts items)) (one_left rest (length limits) item count is) numbers in
+      unfit here.0.0 (subst (λ word. IsNumber range word here.0.0) (sym same) here.0.1))
 
-pub two_left : {X : Type 0} (xs : List X) (k : ℕ) (x y : X) → length xs ≡ suc (suc k) → x ≡ get_or xs k x
-    → y ≡ get_or xs (suc k) y → drop k xs ≡ x ∷ y ∷ []
-two_left xs k x y count is next =
-    drop-cons xs k x (omega (arith, count)) ∙ ap (λ z. z ∷ drop (suc k) xs) (sym is)
-    ∙ ap (λ ys. x ∷ ys) (one_left xs (suc k) y count next)
+  -- the words at the places of two numbers are not both of their ranges
+  pub unlisted_numbers : (limits : List ℕ) (range later : NumberRange) (item next : String Y)
+      → shape_of_name (string_bytes name) ≡ Some (record { limits = limits; ranges = range ∷ later ∷ [] })
+      → length rest ≡ suc (suc (length limits)) → item ≡ get_or rest (length limits) item
+      → next ≡ get_or rest (suc (length limits)) next
+      → ((number second : ℕ) → IsNumber range (string_bytes item) number → IsNumber later (string_bytes next) second → ⊥)
+      → ¬ (IsListed (texts words))
+  unlisted_numbers limits range later item next named count is then unfit =
+      unlisted-numbers (record { limits = limits; ranges = range ∷ later ∷ [] }) named
+      (λ numbers.
+      let here : AreNumbers (range ∷ later ∷ []) (string_bytes item ∷ string_bytes next ∷ []) =
+      subst (λ items. AreNumbers (range ∷ later ∷ []) (texts items)) (two_left rest (length limits) item next count is then)
+      numbers in
+      unfit here.0.0 here.1.0.0 here.0.1 here.1.0.1)
 
 -- ---- two readings of the words
 
@@ -270,3 +297,8 @@ module _ (words : List (List ℕ)) (job other : Job (List ℕ)) (says : Says wor
       in
       let e : Some other ≡ Some job = sym (known other).is_at ∙ here ∙ (known job).is_at in
       cc e
+
+-- a property of any error
+pub IfErr-always : {T E P : Type 0} (r : Result T E) → P → IfErr r (λ _. P)
+IfErr-always (Ok x) p = tt
+IfErr-always (Err e) p = p

@@ -6,7 +6,7 @@ use Rattle.r3_outside.specs.Contents.{FileMap, file_bytes}
 use Rattle.r3_faults.specs.declared.faults.Fault.{Fault}
 use Rattle.r3_faults.specs.declared.faults.Fault.TheVariants.{Usage, Read, TooLong, Write, Memory}
 use Rattle.r3_core.specs.declared.jobs.Job.{Job}
-use Rattle.r3_core.specs.Jobs.{files_of, map_files}
+use Rattle.r3_core.specs.Jobs.{files_of, map_files, without_files}
 use Rattle.r3_core.specs.Words.{IsListed, Says}
 use Rattle.r3_core.specs.Meanings.{IsRefusal, Prints}
 
@@ -73,7 +73,7 @@ bytes_of job = map_files (λ bytes. bytes.items) job
 -- the job with the bytes of its files: the same command with the same numbers, and the bytes that the files contain, if
 -- the contents of files are known
 pub record AreBytesOf (contents : Option FileMap) (job given : Job (List ℕ)) : Type 0 where
-  pub same : map_files (λ _. tt) given ≡ map_files (λ _. tt) job
+  pub same : without_files given ≡ without_files job
   pub contained : ForSome contents (λ known. given ≡ loaded known job)
 
 -- the bytes of each file are within its limit

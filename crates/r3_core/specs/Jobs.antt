@@ -103,3 +103,7 @@ map_files f (ForeignHistory m decls s turns) = ForeignHistory (f m) (f decls) (f
 map_files f (Pair left right s turns) = Pair (f left) (f right) (f s) turns
 map_files f (PairHistory left right s turns) = PairHistory (f left) (f right) (f s) turns
 map_files f (From m s turns call) = From (f m) (f s) turns call
+
+-- a job without its files: its command and its numbers
+abbrev pub without_files : {B : Type 0} → Job B → Job (Unit {0})
+without_files job = map_files (λ _. tt {0}) job

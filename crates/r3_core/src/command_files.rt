@@ -38,8 +38,12 @@ pub(crate) fn load_job<F: Files>(
             script,
             turns,
         } => {
-            let (module, script) =
-                load_two(alloc, files, (module, MAX_FILE_BYTES), (script, MAX_FILE_BYTES))?;
+            let (module, script) = load_two(
+                alloc,
+                files,
+                (module, MAX_FILE_BYTES),
+                (script, MAX_FILE_BYTES),
+            )?;
             Ok(Job::Make {
                 module,
                 script,
@@ -94,8 +98,12 @@ pub(crate) fn load_job<F: Files>(
             script,
             turns,
         } => {
-            let (module, script) =
-                load_two(alloc, files, (module, MAX_FILE_BYTES), (script, MAX_FILE_BYTES))?;
+            let (module, script) = load_two(
+                alloc,
+                files,
+                (module, MAX_FILE_BYTES),
+                (script, MAX_FILE_BYTES),
+            )?;
             Ok(Job::History {
                 module,
                 script,
@@ -197,8 +205,12 @@ pub(crate) fn load_job<F: Files>(
             turns,
             call,
         } => {
-            let (module, script) =
-                load_two(alloc, files, (module, MAX_FILE_BYTES), (script, MAX_FILE_BYTES))?;
+            let (module, script) = load_two(
+                alloc,
+                files,
+                (module, MAX_FILE_BYTES),
+                (script, MAX_FILE_BYTES),
+            )?;
             Ok(Job::From {
                 module,
                 script,

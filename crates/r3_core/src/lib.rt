@@ -154,7 +154,11 @@ fn run<F: Files, O: Sink>(
 }
 
 /// The bytes that a job prints.
-fn output_of_job<F: Files>(alloc: Global, job: Job<&String>, files: &mut F) -> Result<Vec<u8>, Fault>
+fn output_of_job<F: Files>(
+    alloc: Global,
+    job: Job<&String>,
+    files: &mut F,
+) -> Result<Vec<u8>, Fault>
     requires { AreInRange (form (named job)).numbers }
 
     ensures contents_unchanged { F.contents files.new ≡ F.contents files.old }

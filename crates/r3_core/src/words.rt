@@ -122,11 +122,21 @@ fn number_of(word: &str, range: NumberRange) -> Result<u64, Fault>
     ensures usage { IfErr result (λ fault. fault ≡ Fault.Usage) }
     ensures unfit { IfErr result (λ _. (number : ℕ) → ¬ (IsNumber range word.now number)) }
 {
+    number_between(word, range.least, range.most)
+}
+
+/// Reads a number from `least` to `most` in decimal, without a sign and leading zeros. The only fault is `Usage`.
+fn number_between(word: &str, least: u64, most: u64) -> Result<u64, Fault>
+    ensures fits { IfOk result (λ number. IsNumber (record { least = least; most = most }) word.now number) }
+    ensures usage { IfErr result (λ fault. fault ≡ Fault.Usage) }
+    ensures unfit { IfErr result
+        (λ _. (number : ℕ) → ¬ (IsNumber (record { least = least; most = most }) word.now number)) }
+{
     let Ok(number) = word.parse::<u64>() else {
         return Err(Fault::Usage);
     };
     let mut buffer = Buffer::new();
-    if number < range.least || range.most < number || buffer.format(number) != word {
+    if number < least || most < number || buffer.format(number) != word {
         return Err(Fault::Usage);
     }
     Ok(number)
