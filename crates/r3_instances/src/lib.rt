@@ -1,5 +1,5 @@
-//! The commands `foreign` and `pair`, with their histories, from the bytes of their files to what they print or why they
-//! refuse: runs of several modules, of which the replay module of one module is made.
+//! The commands `foreign` and `pair`, with their histories, from the bytes of their files to what they print or why
+//! they refuse: runs of several modules, of which the replay module of one module is made.
 #![tactic(auto)]
 
 mod declared_modules;

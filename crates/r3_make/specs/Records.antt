@@ -22,8 +22,8 @@ use Rattle.r3_inputs.specs.Inputs.{IsModuleOf}
 use Rattle.accepted_runs.specs.Runnable.{CanRun}
 use Rattle.r3_make.specs.declared.recorded_runs.HookedInputs.{HookedInputs}
 
--- a module that can be recorded: some bytes encode it, at most `MAX_ORIGINAL_BYTES`, and none of its lists has more items
--- than these; it is accepted, and its data are bytes
+-- a module that can be recorded: some bytes encode it, at most `MAX_ORIGINAL_BYTES`, and none of its lists has more
+-- items than these; it is accepted, and its data are bytes
 pub record IsOriginalModule (m : Module) : Type 0 where
   pub bytes : List ℕ
   pub is_module : IsModuleOf bytes m
