@@ -3,5 +3,4 @@ pub mod RefusalLemmas
 pub mod ResultLemmas
 pub mod StatusLemmas
 pub mod WordLemmas
-pub mod CommandLimits
-pub mod Dispatch
+pub mod JobLemmas

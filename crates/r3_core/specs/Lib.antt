@@ -1,2 +1,4 @@
+pub mod Jobs
 pub mod Words
+pub mod Meanings
 pub mod Causes

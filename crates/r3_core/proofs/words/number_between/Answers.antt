@@ -3,8 +3,8 @@ use Rattle.std.specs.Fmt.{decimal}
 use Rattle.std.proofs.lemmas.Fmt.{parse-decimal}
 use Rattle.std.proofs.lemmas.Bool.{false≢true}
 use Rattle.r3_core.proofs.WordLemmas.{bytes_eq-same}
-use Rattle.r3_core.proofs.words.number_of.Goals as goal
-use Rattle.r3_core.proofs.words.number_of.Goals.{then-number-least-via-then-number-least, then-number-least-via-else-number-least+then-most-number, then-number-least-via-else-number-least+else-most-number+then-ne}
+use Rattle.r3_core.proofs.words.number_between.Goals as goal
+use Rattle.r3_core.proofs.words.number_between.Goals.{then-number-least-via-then-number-least, then-number-least-via-else-number-least+then-most-number, then-number-least-via-else-number-least+else-most-number+then-ne}
 
 pub returns-in_default-clause-unfit : goal.returns-in_default-clause-unfit
 returns-in_default-clause-unfit c = λ number is.
