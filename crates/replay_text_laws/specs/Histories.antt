@@ -1,5 +1,5 @@
--- Of what `make`, `foreign` and `pair` print, `replay` prints what `history`, `foreign-history` and `pair-history` print
--- of the run.
+-- Of what `make`, `foreign` and `pair` print, `replay` prints what `history`, `foreign-history` and `pair-history`
+-- print of the run.
 use Rattle.std.specs.Prelude.{◌≡◌, ℕ, ◌≤◌, List, length}
 use Rattle.wasm_syntax.specs.declared.limits.TheConstants.{MAX_FILE_BYTES}
 use Rattle.r3_history.specs.Histories.{IsHistory}
@@ -10,8 +10,8 @@ use Rattle.r3_instances.specs.PairHistories.{IsPairHistory}
 use Rattle.r3_instances.specs.PairReplays.{IsPairPrinted}
 use Rattle.replay_text_laws.specs.Texts.{IsReplayedAs}
 
--- Of a run whose lines `IsText` defines, by the budget: within each budget from `turns` on it has the same lines, and no
--- others within any; and `replay` prints just these lines of the printed bytes.
+-- Of a run whose lines `IsText` defines, by the budget: within each budget from `turns` on it has the same lines, and
+-- no others within any; and `replay` prints just these lines of the printed bytes.
 pub record IsReplayedAsHistory (IsText : (budget : ℕ) → (text : List ℕ) → Type 0) (turns : ℕ) (printed : List ℕ)
     : Type 0 where
   pub text : List ℕ
