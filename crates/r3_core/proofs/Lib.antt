@@ -4,3 +4,4 @@ pub mod ResultLemmas
 pub mod StatusLemmas
 pub mod WordLemmas
 pub mod JobLemmas
+pub mod Replayed

@@ -9,6 +9,7 @@ use Rattle.r3_core.specs.declared.jobs.Job.{Job}
 use Rattle.r3_core.specs.Jobs.{files_of, map_files, without_files}
 use Rattle.r3_core.specs.Words.{IsListed, Says}
 use Rattle.r3_core.specs.Meanings.{IsRefusal, Prints}
+use Rattle.r3_core.specs.Replayed.{IsReplayed}
 
 -- ---- the files of a call
 
@@ -104,11 +105,13 @@ pub record IsRefused (words : List (List ℕ)) (contents : Option FileMap) (faul
   pub call : IsCall words contents given
   pub refusal : IsRefusal given fault
 
--- the job of the words prints these bytes for the bytes of its files
+-- the job of the words prints these bytes for the bytes of its files; and of what `make`, `foreign` and `pair` print,
+-- `replay` prints what `history`, `foreign-history` and `pair-history` print for the same files
 pub record IsPrintedFor (words : List (List ℕ)) (contents : Option FileMap) (printed : List ℕ) : Type 0 where
   pub given : Job (List ℕ)
   pub call : IsCall words contents given
   pub prints : Prints given printed
+  pub replayed : IsReplayed given printed
 
 -- why a call with these words ends with this fault
 pub data IsCause (words : List (List ℕ)) (reading : Reading) (writes_before writes_now : ℕ) (fault : Fault)

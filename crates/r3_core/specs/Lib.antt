@@ -1,4 +1,5 @@
 pub mod Jobs
 pub mod Words
 pub mod Meanings
+pub mod Replayed
 pub mod Causes

@@ -12,12 +12,16 @@ ghost use Rattle.r3_core.specs.declared.jobs.Job.{Job};
 ghost use Rattle.r3_core.specs.Jobs.{files_of, form};
 ghost use Rattle.r3_core.specs.Words.{named, texts, AreInRange, IsListed, Says};
 ghost use Rattle.r3_core.specs.Meanings.{IsDoable, IsRefusal, Prints};
+ghost use Rattle.r3_core.specs.Replayed.{IsReplayed};
 ghost use Rattle.r3_core.specs.Causes.{first_longer, loaded, reading_of, AreBytesOf, IsCause, IsPrintCause, IsPrintedFor, NamesNoFile};
 
 use command_files::load_job;
 use jobs::Job;
 use output::output_of;
 use r3_outside::{Files, Sink, put_all};
+use replay_text_laws::{
+    foreign_replays_print_histories, pair_replays_print_histories, replays_print_histories,
+};
 use std::alloc::Global;
 use words::job_of;
 
@@ -80,7 +84,8 @@ pub fn r3<F: Files, O: Sink, E: Sink>(
         → IsDoable (loaded known job)
         → Contains (0 ∷ 3 ∷ 13 ∷ 14 ∷ []) result) }
 
-    // With status 0 no count of faults has risen, and this is printed.
+    // With status 0 no count of faults has risen, and this is printed: what the job prints; and of what `make`,
+    // `foreign` and `pair` print, `replay` prints what the run's history is.
     ensures no_failed_read { result ≡ 0 → (name : List ℕ) → F.faults files.new name ≡ F.faults files.old name }
     ensures no_failed_write { result ≡ 0 → O.faults out.new ≡ O.faults out.old }
     ensures printed { result ≡ 0 → (bytes : List ℕ)
@@ -176,12 +181,16 @@ fn output_of_job<F: Files>(
         → IfErr result (λ other. Contains (3 ∷ 13 ∷ 14 ∷ []) (status_of other))) }
     ensures no_failed_read { OnOk result ((name : List ℕ) → F.faults files.new name ≡ F.faults files.old name) }
     ensures printed { IfOk result (λ bytes. (given : Job (List ℕ))
-        × AreBytesOf (F.contents files.old) (named job) given × Prints given bytes.items) }
+        × AreBytesOf (F.contents files.old) (named job) given × Prints given bytes.items
+        × IsReplayed given bytes.items) }
     ensures cause { IfErr result (λ fault. IsPrintCause
         (reading_of (F.contents files.old)
         (F.faults files.old) (F.faults files.new) (F.taken files.old) (F.taken files.new))
         (named job) fault) }
 {
+    replays_print_histories();
+    foreign_replays_print_histories();
+    pair_replays_print_histories();
     let given = load_job(alloc, files, job)?;
     output_of(alloc, &given)
 }

@@ -7,6 +7,7 @@ use Rattle.r3_core.specs.Meanings.{IsDoable, IsRefusal, Prints}
 use Rattle.r3_core.specs.Causes.{bytes_of, first_longer}
 use Rattle.r3_core.proofs.JobLemmas.{in_range_with, on_ok}
 use Rattle.r3_core.proofs.ResultLemmas.{IfErr-from, IsErrAnd-from}
+use Rattle.r3_core.proofs.Replayed.{replayed}
 use Rattle.r3_core.proofs.StatusLemmas.{load-contains, load-refused, load-done, IsErrAnd-refused, IfErr-bytes, IfErr-done, unloaded}
 use Rattle.r3_core.proofs.output_of_job.Goals as goal
 
@@ -50,8 +51,15 @@ returns-clause-cause g c =
 
 pub returns-clause-printed : goal.returns-clause-printed
 returns-clause-printed g c =
-    IfOk-weaker c.output_of.result (λ bytes. Prints (bytes_of c.in_ok-given.field-0) bytes.items) _
-    (λ bytes prints. (bytes_of c.in_ok-given.field-0, c.in_ok-given.ensures.loads.value.bytes, prints))
+    let given = bytes_of c.in_ok-given.field-0 in
+    IfOk-weaker c.output_of.result (λ bytes. Prints given bytes.items) _
+    (λ bytes prints. (
+      given,
+      c.in_ok-given.ensures.loads.value.bytes,
+      prints,
+      replayed c.replays_print_histories.ensures c.foreign_replays_print_histories.ensures
+      c.pair_replays_print_histories.ensures given c.in_ok-given.ensures.loads.value.within bytes.items prints,
+    ))
     c.output_of.ensures.printed
 
 pub returns-clause-no_failed_read : goal.returns-clause-no_failed_read
