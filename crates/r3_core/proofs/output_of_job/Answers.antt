@@ -58,7 +58,7 @@ returns-clause-printed g c =
       c.in_ok-given.ensures.loads.value.bytes,
       prints,
       replayed c.replays_print_histories.ensures c.foreign_replays_print_histories.ensures
-      c.pair_replays_print_histories.ensures given c.in_ok-given.ensures.loads.value.within bytes.items prints,
+          c.pair_replays_print_histories.ensures given c.in_ok-given.ensures.loads.value.within bytes.items prints,
     ))
     c.output_of.ensures.printed
 
