@@ -15,7 +15,7 @@ output_of-requires-clause-within g c = c.in_ok-given.ensures.loads.value.within
 
 pub output_of-requires-clause-in_range : goal.output_of-requires-clause-in_range
 output_of-requires-clause-in_range g c =
-    in_range_with (named c.args.job) (bytes_of c.in_ok-given.field-0) c.in_ok-given.ensures.loads.value.bytes.same c.requires
+    in_range_with (named c.args.job) (bytes_of c.in_ok-given.given) c.in_ok-given.ensures.loads.value.bytes.same c.requires
 
 pub returns-in_err-given-clause-longer : goal.returns-in_err-given-clause-longer
 returns-in_err-given-clause-longer g c = λ known e longer.
@@ -45,13 +45,13 @@ returns-clause-refused g c = λ fault known e none sure.
 
 pub returns-clause-cause : goal.returns-clause-cause
 returns-clause-cause g c =
-    IfErr-bytes c.output_of.result _ (named c.args.job) (bytes_of c.in_ok-given.field-0)
+    IfErr-bytes c.output_of.result _ (named c.args.job) (bytes_of c.in_ok-given.given)
     c.in_ok-given.ensures.loads.value.bytes c.output_of.ensures.cause
 
 pub returns-clause-printed : goal.returns-clause-printed
 returns-clause-printed g c =
-    IfOk-weaker c.output_of.result (λ bytes. Prints (bytes_of c.in_ok-given.field-0) bytes.items) _
-    (λ bytes prints. (bytes_of c.in_ok-given.field-0, c.in_ok-given.ensures.loads.value.bytes, prints))
+    IfOk-weaker c.output_of.result (λ bytes. Prints (bytes_of c.in_ok-given.given) bytes.items) _
+    (λ bytes prints. (bytes_of c.in_ok-given.given, c.in_ok-given.ensures.loads.value.bytes, prints))
     c.output_of.ensures.printed
 
 pub returns-clause-no_failed_read : goal.returns-clause-no_failed_read
