@@ -58,7 +58,7 @@ pub taken_log : {imports most : ℕ} (r : RecordedRun) (reducer : Reducer) (outc
 taken_log r reducer outcome h = record { log = h.log; is_log = h.is_log; taken = h.taken.has }
 
 module _ (run : OriginalRun) (turns : ℕ) (reports : ReportsOriginal run turns) where
-  linked : IsLinked run.m run.script run.supply run.store
+  abbrev pub linked : IsLinked run.m run.script run.supply run.store
   linked = record { supplied = run.supplied; begins = run.opens }
 
   -- a log of the record has the record's imports, its own events and the outcome

@@ -53,7 +53,7 @@ module _ (m : Module) (original : IsOriginalModule m) where
 
 module _ (words : EncodedHaveWords) (m : Module) (script : Script) (inputs : HookedInputs)
     (are : AreHookedInputs m script inputs) where
-  core : IsCoreModule m
+  abbrev pub core : IsCoreModule m
   core = (of_words m are.original words).0
 
   pub hooked_runnable : InstrumentedAreRunnable → IsRunnable inputs.hooked

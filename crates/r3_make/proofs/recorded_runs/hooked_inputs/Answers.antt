@@ -1,6 +1,7 @@
 use Rattle.std.proofs.Common.{sym, ◌∙◌, ap, subst}
 use Rattle.wasm_syntax.specs.Index.{imported_funcs}
 use Rattle.instrumented_module_laws.specs.Links.{script_with_hooks}
+use Rattle.r3_make.specs.declared.recorded_runs.TheConstants.{NO_DIGEST}
 use Rattle.r3_make.specs.Records.{AreHookedInputs}
 use Rattle.r3_make.proofs.Originals.{of_words}
 use Rattle.r3_make.proofs.recorded_runs.hooked_inputs.Goals as goal
@@ -19,7 +20,7 @@ returns c =
     (record {
       original = c.requires.original;
       can_run = c.requires.runnable;
-      digest = _;
+      digest = NO_DIGEST;
       hooked = c.in_ok-hooked.ensures.module;
       meter = c.in_ok-hooked.ensures.meter;
       script_is = c.in_ok-script.ensures ∙ ap (λ m. script_with_hooks m c.args.script) c.module-2.ensures.same;

@@ -26,13 +26,17 @@ replay_bytes-requires-clause-constants c =
     needed.1 (runnable c.args.checked c.requires.original c.args.script c.requires.runnable) c.requires.runnable.fits
     c.needed_tapes_are_constant.ensures
 
-pub returns-clause-printed : goal.returns-clause-printed
-returns-clause-printed c =
+pub returns : goal.returns
+returns c =
     let m = c.args.checked in
     let script = c.args.script in
     let needed = c.in_ok-found.ensures.needed in
-    replay_for m script c.args.turns c.in_ok-found.found.supply needed.0 c.in_ok-found.found.tape needed.1
-    (runnable m c.requires.original script c.requires.runnable) c.requires.runnable.fits
-    (of_words m c.requires.original c.encoded_have_words.ensures).0 c.runs_are_replayed.ensures
-    c.nothing_can_be_dropped.ensures c.in_ok-found.ensures.light c.in_ok-printed.printed.items
-    (c.in_ok-printed.ensures.printed needed.0 needed.1.linked.begins)
+    record {
+      cause = tt;
+      printed =
+          replay_for m script c.args.turns c.in_ok-found.found.supply needed.0 c.in_ok-found.found.tape needed.1
+          (runnable m c.requires.original script c.requires.runnable) c.requires.runnable.fits
+          (of_words m c.requires.original c.encoded_have_words.ensures).0 c.runs_are_replayed.ensures
+          c.nothing_can_be_dropped.ensures c.in_ok-found.ensures.light c.in_ok-printed.printed.items
+          (c.in_ok-printed.ensures.printed needed.0 needed.1.linked.begins);
+    }

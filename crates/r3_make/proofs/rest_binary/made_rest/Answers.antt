@@ -35,13 +35,17 @@ encoded_replay-requires-clause-can c =
     (from_bytes m c.requires.original) found.1 c.needed_tapes_are_constant.ensures c.cuts_fit.ensures
     c.cuts_are_light.ensures c.cuts_are_constant.ensures c.state_modules_can_be_replayed.ensures
 
-pub returns-clause-printed : goal.returns-clause-printed
-returns-clause-printed c =
+pub returns : goal.returns
+returns c =
     let m = c.args.checked in
     let script = c.args.script in
     let found = c.in_ok-parts.ensures.parts in
-    rest_for m script c.args.turns c.args.number found.0 c.in_ok-parts.parts.«module» c.in_ok-parts.parts.supply
-    c.in_ok-parts.parts.cut found.2 (runnable m c.requires.original script c.requires.runnable)
-    (of_words m c.requires.original c.encoded_have_words.ensures).0 c.requires.runnable.fits
-    c.needed_tapes_are_playable.ensures c.rests_are_replayed_from_states.ensures c.in_ok-printed.printed.items
-    c.in_ok-printed.ensures.printed
+    record {
+      cause = tt;
+      printed =
+          rest_for m script c.args.turns c.args.number found.0 c.in_ok-parts.parts.«module» c.in_ok-parts.parts.supply
+          c.in_ok-parts.parts.cut found.2 (runnable m c.requires.original script c.requires.runnable)
+          (of_words m c.requires.original c.encoded_have_words.ensures).0 c.requires.runnable.fits
+          c.needed_tapes_are_playable.ensures c.rests_are_replayed_from_states.ensures c.in_ok-printed.printed.items
+          c.in_ok-printed.ensures.printed;
+    }
