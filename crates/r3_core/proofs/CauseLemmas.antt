@@ -1,6 +1,5 @@
 -- Causes of faults, from some files of several; what a call that loads files implies for a call that passes its result on.
-use Rattle.std.proofs.Common.{◌≡◌, ℕ, ◌+◌, ◌≤◌, ◌⊎◌, List, [], ◌∷◌, ◌++◌, length, map, find, nat_lt, refl, sym, ◌∙◌, ap, subst, arith, Bool, Option, Some, None, Result, Ok, Err, IfOk, IfErr, OnOk, String, Vec, inl, inr}
-use Rattle.std.specs.Borrow.{Bor}
+use Rattle.std.proofs.Common.{◌≡◌, ℕ, ◌+◌, ◌≤◌, ◌⊎◌, List, [], ◌∷◌, ◌++◌, length, map, find, nat_lt, refl, sym, ◌∙◌, ap, subst, arith, Bool, Option, Some, None, Result, Ok, Err, IfOk, IfErr, OnOk, Vec, inl, inr}
 use Rattle.std.specs.List.{Contains}
 use Rattle.std.specs.Option.{option_or, ForSome}
 use Rattle.std.specs.Result.{IsErrAnd}
@@ -9,10 +8,7 @@ use Rattle.std.proofs.lemmas.List.Elements.{Contains-append_left, Contains-appen
 use Rattle.std.proofs.lemmas.List.Folds.{find-append}
 use Rattle.r3_outside.specs.Count.{Rose, Took, NoneFell}
 use Rattle.r3_outside.specs.Contents.{FileMap, file_bytes}
-use Rattle.r3_core.specs.declared.jobs.Job.{Job}
-use Rattle.r3_core.specs.Jobs.{files_of}
-use Rattle.r3_core.specs.Words.{named}
-use Rattle.r3_core.specs.Causes.{Reading, reading_of, bytes_of, first_longer, IsFile, IsLoadCause, IsLoaded, IsLoading}
+use Rattle.r3_core.specs.Causes.{Reading, reading_of, first_longer, IsFile, IsLoadCause, IsLoading}
 use Rattle.r3_faults.specs.declared.faults.Fault.{Fault}
 use Rattle.r3_faults.specs.declared.faults.Fault.TheVariants as faults
 
@@ -157,18 +153,6 @@ passed_on reading files P Q e (Err other) loading passes = record {
   cause = subst (λ fault. (fault ≡ faults.Memory) ⊎ IsLoadCause reading files fault) (sym passes) loading.cause;
 }
 
--- another value of a call that loads files
-pub with_value : {V W : Type 0} (reading : Reading) (files : List (List ℕ × ℕ)) (P : V → Type 0) (Q : W → Type 0) (v : V)
-    (w : W) → IsLoading reading files P (Ok v) → (P v → Q w) → IsLoading reading files Q (Ok w)
-with_value reading files P Q v w loading follows = record {
-  faults_never_fall = loading.faults_never_fall;
-  taken_never_falls = loading.taken_never_falls;
-  value = follows loading.value;
-  failed_none = loading.failed_none;
-  within_limits = loading.within_limits;
-  cause = tt;
-}
-
 -- the first files are not loaded, and the call returns
 pub stopped_early : {V W : Type 0} (reading : Reading) (xs ys : List (List ℕ × ℕ)) (P : V → Type 0) (Q : W → Type 0)
     (e : Fault) (q : Result W Fault) → IsLoading reading xs P (Err e) → IsErrAnd q (λ other. other ≡ e)
@@ -223,24 +207,3 @@ module _ {U V W : Type 0} (contents later : Option FileMap) (fb fm fn tb tm tn :
         find-right (is_longer known) xs ys None (first.within_limits known e) (next.within_limits known (same ∙ e));
     cause = tt;
   }
-
--- ---- the job of a variant
-
-module _ {Y Z : Type 0} (contents : Option FileMap) (reading : Reading) (job here : Job (Bor (String Y))) (is : job ≡ here)
-  where
-    -- what a call that loads the files of a job ensures
-    abbrev pub LoadsJob : Job (Bor (String Y)) → Result (Job (Vec ℕ Z)) Fault → Type 0
-    LoadsJob job r = IsLoading reading (files_of (named job)) (λ given. IsLoaded contents (named job) (bytes_of given)) r
-
-    pub job_stopped : {V : Type 0} (P : V → Type 0) (e : Fault) (q : Result (Job (Vec ℕ Z)) Fault)
-        → IsLoading reading (files_of (named here)) P (Err e) → IsErrAnd q (λ other. other ≡ e) → LoadsJob job q
-    job_stopped P e q loading passes =
-        subst (λ job. LoadsJob job q) (sym is)
-        (passed_on reading (files_of (named here)) P (λ given. IsLoaded contents (named here) (bytes_of given)) e q loading passes)
-
-    pub job_loaded : {V : Type 0} (P : V → Type 0) (v : V) (given : Job (Vec ℕ Z))
-        → IsLoading reading (files_of (named here)) P (Ok v) → (P v → IsLoaded contents (named here) (bytes_of given))
-        → LoadsJob job (Ok given)
-    job_loaded P v given loading follows =
-        subst (λ job. LoadsJob job (Ok given)) (sym is)
-        (with_value reading (files_of (named here)) P (λ given. IsLoaded contents (named here) (bytes_of given)) v given loading follows)

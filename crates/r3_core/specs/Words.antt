@@ -25,8 +25,8 @@ AreInRange [] = Unit {0}
 AreInRange (number ∷ numbers) =
     ((number.1.least ≤ number.0) × (number.0 ≤ number.1.most)) × AreInRange numbers
 
--- a job in words: the name of its command, its files in sequence, and its numbers in decimal, without a sign and leading
--- zeros
+-- a job in words: the name of its command, its files in sequence, and its numbers in decimal, without a sign and
+-- leading zeros
 abbrev pub words_of : Job (List ℕ) → List (List ℕ)
 words_of job =
     (form job).name

@@ -26,11 +26,11 @@ pub(crate) fn load_job<F: Files>(
     job: Job<&String>,
 ) -> Result<Job<Vec<u8>>, Fault>
     ensures contents_unchanged { F.contents files.new ≡ F.contents files.old }
-    ensures unread { files_of (named job) ≡ [] → files.new ≡ files.old }
+    ensures unread { files_of (named job.entry) ≡ [] → files.new ≡ files.old }
     ensures loads { IsLoading
         (reading_of (F.contents files.old)
         (F.faults files.old) (F.faults files.new) (F.taken files.old) (F.taken files.new))
-        (files_of (named job)) (λ given. IsLoaded (F.contents files.old) (named job) (bytes_of given)) result }
+        (files_of (named job.entry)) (λ given. IsLoaded (F.contents files.old) (named job.entry) (bytes_of given)) result }
 {
     match job {
         Job::Make {
@@ -237,11 +237,11 @@ fn load_three<F: Files>(
     ensures loads { IsLoading
         (reading_of (F.contents files.old)
         (F.faults files.old) (F.faults files.new) (F.taken files.old) (F.taken files.new))
-        ((string_bytes first.0.now, first.1) ∷ (string_bytes second.0.now, second.1)
-        ∷ (string_bytes third.0.now, third.1) ∷ [])
-        (λ given. IsFile (F.contents files.old) (string_bytes first.0.now, first.1) given.0.items
-        × IsFile (F.contents files.old) (string_bytes second.0.now, second.1) given.1.items
-        × IsFile (F.contents files.old) (string_bytes third.0.now, third.1) given.2.items) result }
+        ((string_bytes first.entry.0.now, first.entry.1) ∷ (string_bytes second.entry.0.now, second.entry.1)
+        ∷ (string_bytes third.entry.0.now, third.entry.1) ∷ [])
+        (λ given. IsFile (F.contents files.old) (string_bytes first.entry.0.now, first.entry.1) given.0.items
+        × IsFile (F.contents files.old) (string_bytes second.entry.0.now, second.entry.1) given.1.items
+        × IsFile (F.contents files.old) (string_bytes third.entry.0.now, third.entry.1) given.2.items) result }
 {
     let (first, second) = load_two(alloc, files, first, second)?;
     let third = load_file(alloc, files, third)?;
@@ -262,9 +262,9 @@ fn load_two<F: Files>(
     ensures loads { IsLoading
         (reading_of (F.contents files.old)
         (F.faults files.old) (F.faults files.new) (F.taken files.old) (F.taken files.new))
-        ((string_bytes first.0.now, first.1) ∷ (string_bytes second.0.now, second.1) ∷ [])
-        (λ given. IsFile (F.contents files.old) (string_bytes first.0.now, first.1) given.0.items
-        × IsFile (F.contents files.old) (string_bytes second.0.now, second.1) given.1.items) result }
+        ((string_bytes first.entry.0.now, first.entry.1) ∷ (string_bytes second.entry.0.now, second.entry.1) ∷ [])
+        (λ given. IsFile (F.contents files.old) (string_bytes first.entry.0.now, first.entry.1) given.0.items
+        × IsFile (F.contents files.old) (string_bytes second.entry.0.now, second.entry.1) given.1.items) result }
 {
     let first = load_file(alloc, files, first)?;
     let second = load_file(alloc, files, second)?;
@@ -279,8 +279,8 @@ fn load_file<F: Files>(alloc: Global, files: &mut F, file: (&String, u64)) -> Re
     ensures loads { IsLoading
         (reading_of (F.contents files.old)
         (F.faults files.old) (F.faults files.new) (F.taken files.old) (F.taken files.new))
-        ((string_bytes file.0.now, file.1) ∷ [])
-        (λ given. IsFile (F.contents files.old) (string_bytes file.0.now, file.1) given.items) result }
+        ((string_bytes file.entry.0.now, file.entry.1) ∷ [])
+        (λ given. IsFile (F.contents files.old) (string_bytes file.entry.0.now, file.entry.1) given.items) result }
 {
     let (name, limit) = file;
     load_named(alloc, files, name.as_str(), limit)

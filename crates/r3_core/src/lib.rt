@@ -62,12 +62,12 @@ pub fn r3<F: Files, O: Sink, E: Sink>(
     // A file was not loaded: it is one of the job that the words say; a file that is too long is the first such one.
     ensures contents_unchanged { F.contents files.new ≡ F.contents files.old }
     ensures read { result ≡ 3 → (job : Job (List ℕ)) × Says (texts words.now) job
-        × (name : List ℕ) × Contains (map (λ file. file.0) (files_of job)) name
-        × Rose (F.faults files.old name) (F.faults files.new name) }
+        × ((name : List ℕ) × Contains (map (λ file. file.0) (files_of job)) name
+        × Rose (F.faults files.old name) (F.faults files.new name)) }
     ensures too_long { result ≡ 4 → (job : Job (List ℕ)) × Says (texts words.now) job
-        × (file : List ℕ × ℕ) × Contains (files_of job) file
+        × ((file : List ℕ × ℕ) × Contains (files_of job) file
         × Took (F.taken files.old file.0) (F.taken files.new file.0) (file.1 + 1)
-        × ForSome (F.contents files.old) (λ known. first_longer known (files_of job) ≡ Some file) }
+        × ForSome (F.contents files.old) (λ known. first_longer known (files_of job) ≡ Some file)) }
     ensures longer { (job : Job (List ℕ)) → Says (texts words.now) job → ForSome (F.contents files.old)
         (λ known. IsSome (first_longer known (files_of job))
         → Contains (3 ∷ 4 ∷ 14 ∷ []) result) }
@@ -167,26 +167,26 @@ fn output_of_job<F: Files>(
     requires { AreInRange (form (named job)).numbers }
 
     ensures contents_unchanged { F.contents files.new ≡ F.contents files.old }
-    ensures unread { files_of (named job) ≡ [] → files.new ≡ files.old }
+    ensures unread { files_of (named job.entry) ≡ [] → files.new ≡ files.old }
     ensures longer { ForSome (F.contents files.old)
-        (λ known. IsSome (first_longer known (files_of (named job)))
+        (λ known. IsSome (first_longer known (files_of (named job.entry)))
         → IsErrAnd result (λ fault. Contains (3 ∷ 4 ∷ 14 ∷ []) (status_of fault))) }
     ensures refused { (fault : Fault) → ForSome (F.contents files.old)
-        (λ known. first_longer known (files_of (named job)) ≡ None
-        → IsRefusal (loaded known (named job)) fault
+        (λ known. first_longer known (files_of (named job.entry)) ≡ None
+        → IsRefusal (loaded known (named job.entry)) fault
         → IsErrAnd result (λ other. Contains (status_of fault ∷ 3 ∷ 14 ∷ []) (status_of other))) }
     ensures done { ForSome (F.contents files.old)
-        (λ known. first_longer known (files_of (named job)) ≡ None
-        → IsDoable (loaded known (named job))
+        (λ known. first_longer known (files_of (named job.entry)) ≡ None
+        → IsDoable (loaded known (named job.entry))
         → IfErr result (λ other. Contains (3 ∷ 13 ∷ 14 ∷ []) (status_of other))) }
     ensures no_failed_read { OnOk result ((name : List ℕ) → F.faults files.new name ≡ F.faults files.old name) }
     ensures printed { IfOk result (λ bytes. (given : Job (List ℕ))
-        × AreBytesOf (F.contents files.old) (named job) given × Prints given bytes.items
+        × AreBytesOf (F.contents files.old) (named job.entry) given × Prints given bytes.items
         × IsReplayed given bytes.items) }
     ensures cause { IfErr result (λ fault. IsPrintCause
         (reading_of (F.contents files.old)
         (F.faults files.old) (F.faults files.new) (F.taken files.old) (F.taken files.new))
-        (named job) fault) }
+        (named job.entry) fault) }
 {
     replays_print_histories();
     foreign_replays_print_histories();

@@ -1,6 +1,6 @@
 // The meaning of a call's words.
 
-ghost use Rattle.std.specs.Prelude.{◌≡◌, ℕ, IfOk, IfErr};
+ghost use Rattle.std.specs.Prelude.{◌≡◌, ℕ, [], ◌∷◌, IfOk, IfErr, string_bytes};
 ghost use Rattle.r3_core.specs.Words.{named, texts, IsNumber, IsListed, Says};
 
 use crate::jobs::Job;
@@ -42,75 +42,137 @@ const LOAD_CALLS: NumberRange = NumberRange {
     most: MAX_LOAD_CALLS as u64,
 };
 
-/// Reads the words after the program's name, one row for each command. The only fault is `Usage`. Takes no memory.
+/// Reads the words after the program's name. The only fault is `Usage`. Takes no memory.
 pub(crate) fn job_of(words: &[String]) -> Result<Job<&String>, Fault>
     ensures listed { IfOk result (λ job. Says (texts words.now) (named job)) }
     ensures usage { IfErr result (λ fault. fault ≡ Fault.Usage) }
     ensures unlisted { IfErr result (λ _. ¬ (IsListed (texts words.now))) }
 {
-    let Some((name, arguments)) = words.split_first() else {
-        return Err(Fault::Usage);
-    };
-    match (name.as_str(), arguments) {
-        ("make", [module, script, turns]) => Ok(Job::Make {
-            module,
-            script,
-            turns: number_of(turns, TURNS)?,
+    match words {
+        [name, only] => job_of_one(name, only),
+        [name, first, second] => job_of_two(name, first, second),
+        [name, first, second, third] => job_of_three(name, first, second, third),
+        [name, first, second, third, fourth] => job_of_four(name, first, second, third, fourth),
+        _ => Err(Fault::Usage),
+    }
+}
+
+/// Reads the name of a command and one word after it, one row for each command. The only fault is `Usage`.
+fn job_of_one<'a>(name: &str, only: &'a String) -> Result<Job<&'a String>, Fault>
+    ensures listed { IfOk result (λ job. Says (name.now ∷ string_bytes only.now ∷ []) (named job)) }
+    ensures usage { IfErr result (λ fault. fault ≡ Fault.Usage) }
+    ensures unlisted { IfErr result (λ _. ¬ (IsListed (name.now ∷ string_bytes only.now ∷ []))) }
+{
+    match name {
+        "instrument" => Ok(Job::Instrument { module: only }),
+        "reduce" => Ok(Job::Reduce { log: only }),
+        "show" => Ok(Job::Show { trace: only }),
+        "load" => Ok(Job::Load {
+            calls: number_of(only, LOAD_CALLS)? as u32,
         }),
-        ("instrument", [module]) => Ok(Job::Instrument { module }),
-        ("record", [hooked, script, turns]) => Ok(Job::Record {
-            hooked,
-            script,
-            turns: number_of(turns, RECORD_TURNS)?,
+        _ => Err(Fault::Usage),
+    }
+}
+
+/// Reads the name of a command and two words after it, one row for each command. The only fault is `Usage`.
+fn job_of_two<'a>(name: &str, first: &'a String, second: &str) -> Result<Job<&'a String>, Fault>
+    ensures listed { IfOk result (λ job.
+        Says (name.now ∷ string_bytes first.now ∷ second.now ∷ []) (named job)) }
+    ensures usage { IfErr result (λ fault. fault ≡ Fault.Usage) }
+    ensures unlisted { IfErr result (λ _. ¬ (IsListed (name.now ∷ string_bytes first.now ∷ second.now ∷ []))) }
+{
+    match name {
+        "replay" => Ok(Job::Replay {
+            binary: first,
+            turns: number_of(second, RECORD_TURNS)?,
         }),
-        ("reduce", [log]) => Ok(Job::Reduce { log }),
-        ("build", [module, script, tape]) => Ok(Job::Build {
-            module,
-            script,
-            tape,
+        _ => Err(Fault::Usage),
+    }
+}
+
+/// Reads the name of a command and three words after it, one row for each command. The only fault is `Usage`.
+fn job_of_three<'a>(
+    name: &str,
+    first: &'a String,
+    second: &'a String,
+    third: &'a String,
+) -> Result<Job<&'a String>, Fault>
+    ensures listed { IfOk result (λ job. Says
+        (name.now ∷ string_bytes first.now ∷ string_bytes second.now ∷ string_bytes third.now ∷ []) (named job)) }
+    ensures usage { IfErr result (λ fault. fault ≡ Fault.Usage) }
+    ensures unlisted { IfErr result (λ _. ¬ (IsListed
+        (name.now ∷ string_bytes first.now ∷ string_bytes second.now ∷ string_bytes third.now ∷ []))) }
+{
+    match name {
+        "make" => Ok(Job::Make {
+            module: first,
+            script: second,
+            turns: number_of(third, TURNS)?,
         }),
-        ("history", [module, script, turns]) => Ok(Job::History {
-            module,
-            script,
-            turns: number_of(turns, HISTORY_TURNS)?,
+        "record" => Ok(Job::Record {
+            hooked: first,
+            script: second,
+            turns: number_of(third, RECORD_TURNS)?,
         }),
-        ("replay", [binary, turns]) => Ok(Job::Replay {
-            binary,
-            turns: number_of(turns, RECORD_TURNS)?,
+        "build" => Ok(Job::Build {
+            module: first,
+            script: second,
+            tape: third,
         }),
-        ("show", [trace]) => Ok(Job::Show { trace }),
-        ("load", [calls]) => Ok(Job::Load {
-            calls: number_of(calls, LOAD_CALLS)? as u32,
+        "history" => Ok(Job::History {
+            module: first,
+            script: second,
+            turns: number_of(third, HISTORY_TURNS)?,
         }),
-        ("foreign", [module, decls, script, turns]) => Ok(Job::Foreign {
-            module,
-            decls,
-            script,
-            turns: number_of(turns, TURNS)?,
+        _ => Err(Fault::Usage),
+    }
+}
+
+/// Reads the name of a command and four words after it, one row for each command. The only fault is `Usage`.
+fn job_of_four<'a>(
+    name: &str,
+    first: &'a String,
+    second: &'a String,
+    third: &'a String,
+    fourth: &str,
+) -> Result<Job<&'a String>, Fault>
+    ensures listed { IfOk result (λ job. Says
+        (name.now ∷ string_bytes first.now ∷ string_bytes second.now ∷ string_bytes third.now ∷ fourth.now ∷ [])
+        (named job)) }
+    ensures usage { IfErr result (λ fault. fault ≡ Fault.Usage) }
+    ensures unlisted { IfErr result (λ _. ¬ (IsListed
+        (name.now ∷ string_bytes first.now ∷ string_bytes second.now ∷ string_bytes third.now ∷ fourth.now ∷ []))) }
+{
+    match name {
+        "foreign" => Ok(Job::Foreign {
+            module: first,
+            decls: second,
+            script: third,
+            turns: number_of(fourth, TURNS)?,
         }),
-        ("foreign-history", [module, decls, script, turns]) => Ok(Job::ForeignHistory {
-            module,
-            decls,
-            script,
-            turns: number_of(turns, HISTORY_TURNS)?,
+        "foreign-history" => Ok(Job::ForeignHistory {
+            module: first,
+            decls: second,
+            script: third,
+            turns: number_of(fourth, HISTORY_TURNS)?,
         }),
-        ("pair", [left, right, script, turns]) => Ok(Job::Pair {
-            left,
-            right,
-            script,
-            turns: number_of(turns, TURNS)?,
+        "pair" => Ok(Job::Pair {
+            left: first,
+            right: second,
+            script: third,
+            turns: number_of(fourth, TURNS)?,
         }),
-        ("pair-history", [left, right, script, turns]) => Ok(Job::PairHistory {
-            left,
-            right,
-            script,
-            turns: number_of(turns, HISTORY_TURNS)?,
+        "pair-history" => Ok(Job::PairHistory {
+            left: first,
+            right: second,
+            script: third,
+            turns: number_of(fourth, HISTORY_TURNS)?,
         }),
-        ("from", [module, script, turns, call]) => Ok(Job::From {
-            module,
-            script,
-            turns: number_of(turns, TURNS)?,
-            call: number_of(call, CALL_NUMBERS)? as u32,
+        "from" => Ok(Job::From {
+            module: first,
+            script: second,
+            turns: number_of(third, TURNS)?,
+            call: number_of(fourth, CALL_NUMBERS)? as u32,
         }),
         _ => Err(Fault::Usage),
     }

@@ -16,7 +16,7 @@ output_of-requires-clause-within g c = c.in_ok-given.ensures.loads.value.within
 
 pub output_of-requires-clause-in_range : goal.output_of-requires-clause-in_range
 output_of-requires-clause-in_range g c =
-    in_range_with (named c.args.job) (bytes_of c.in_ok-given.field-0) c.in_ok-given.ensures.loads.value.bytes.same c.requires
+    in_range_with (named c.args.job) (bytes_of c.in_ok-given.given) c.in_ok-given.ensures.loads.value.bytes.same c.requires
 
 pub returns-in_err-given-clause-longer : goal.returns-in_err-given-clause-longer
 returns-in_err-given-clause-longer g c = λ known e longer.
@@ -46,12 +46,12 @@ returns-clause-refused g c = λ fault known e none sure.
 
 pub returns-clause-cause : goal.returns-clause-cause
 returns-clause-cause g c =
-    IfErr-bytes c.output_of.result _ (named c.args.job) (bytes_of c.in_ok-given.field-0)
+    IfErr-bytes c.output_of.result _ (named c.args.job) (bytes_of c.in_ok-given.given)
     c.in_ok-given.ensures.loads.value.bytes c.output_of.ensures.cause
 
 pub returns-clause-printed : goal.returns-clause-printed
 returns-clause-printed g c =
-    let given = bytes_of c.in_ok-given.field-0 in
+    let given = bytes_of c.in_ok-given.given in
     IfOk-weaker c.output_of.result (λ bytes. Prints given bytes.items) _
     (λ bytes prints. (
       given,

@@ -6,7 +6,7 @@ use Rattle.r3_core.proofs.command_files.load_three.Goals as goal
 pub returns-in_err-first-clause-loads : goal.returns-in_err-first-clause-loads
 returns-in_err-first-clause-loads g c =
     stopped_early _ _ ((string_bytes c.args.third.0.now, c.args.third.1) ∷ []) _ _ _ _ c.in_err-first.ensures.loads
-    c.from_residual-in_err-first.ensures.1
+    c.from_residual.ensures.1
 
 pub returns-in_err-third-clause-loads : goal.returns-in_err-third-clause-loads
 returns-in_err-third-clause-loads g c =
@@ -20,5 +20,5 @@ returns-clause-loads g c =
     (λ both third. (
       both.0,
       both.1,
-      subst (λ contents. IsFile contents (string_bytes c.args.third.0.now, c.args.third.1) c.in_ok-third.field-0.items) same third,
+      subst (λ contents. IsFile contents (string_bytes c.args.third.0.now, c.args.third.1) c.in_ok-third.third.items) same third,
     ))

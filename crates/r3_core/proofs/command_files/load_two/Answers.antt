@@ -6,7 +6,7 @@ use Rattle.r3_core.proofs.command_files.load_two.Goals as goal
 pub returns-in_err-first-clause-loads : goal.returns-in_err-first-clause-loads
 returns-in_err-first-clause-loads g c =
     stopped_early _ _ ((string_bytes c.args.second.0.now, c.args.second.1) ∷ []) _ _ _ _ c.in_err-first.ensures.loads
-    c.from_residual-in_err-first.ensures.1
+    c.from_residual.ensures.1
 
 pub returns-in_err-second-clause-loads : goal.returns-in_err-second-clause-loads
 returns-in_err-second-clause-loads g c =
@@ -19,5 +19,5 @@ returns-clause-loads g c =
     all_loaded _ _ _ _ _ _ _ _ _ _ _ _ _ _ c.in_ok-first.ensures.loads same _ _ c.in_ok-second.ensures.loads
     (λ first second. (
       first,
-      subst (λ contents. IsFile contents (string_bytes c.args.second.0.now, c.args.second.1) c.in_ok-second.field-0.items) same second,
+      subst (λ contents. IsFile contents (string_bytes c.args.second.0.now, c.args.second.1) c.in_ok-second.second.items) same second,
     ))

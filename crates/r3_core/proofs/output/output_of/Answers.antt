@@ -32,7 +32,8 @@ pub returns-in-Build : goal.returns-in-Build
 returns-in-Build c =
     answer_at bytes_of c.args.job.now _ c.in-Build.is
     (Build c.deref-in-Build.result.now c.deref-in-Build-2.result.now c.deref-in-Build-3.result.now) c.build.result
-    (cc (c.deref-in-Build.ensures.value, c.deref-in-Build-2.ensures.value, c.deref-in-Build-3.ensures.value)) (exact_answer _ _ c.build.result c.build.ensures)
+    (cc (c.deref-in-Build.ensures.value, c.deref-in-Build-2.ensures.value, c.deref-in-Build-3.ensures.value))
+    (exact_answer _ _ c.build.result c.build.ensures)
 
 pub returns-in-History : goal.returns-in-History
 returns-in-History c =
@@ -67,8 +68,10 @@ returns-in-Foreign c =
 pub returns-in-ForeignHistory : goal.returns-in-ForeignHistory
 returns-in-ForeignHistory c =
     answer_at bytes_of c.args.job.now _ c.in-ForeignHistory.is
-    (ForeignHistory c.deref-in-ForeignHistory.result.now c.deref-in-ForeignHistory-2.result.now c.deref-in-ForeignHistory-3.result.now c.in-ForeignHistory.turns) c.foreign_history.result
-    (cc (c.deref-in-ForeignHistory.ensures.value, c.deref-in-ForeignHistory-2.ensures.value, c.deref-in-ForeignHistory-3.ensures.value)) (exact_answer _ _ c.foreign_history.result c.foreign_history.ensures)
+    (ForeignHistory c.deref-in-ForeignHistory.result.now c.deref-in-ForeignHistory-2.result.now c.deref-in-ForeignHistory-3.result.now
+    c.in-ForeignHistory.turns) c.foreign_history.result
+    (cc (c.deref-in-ForeignHistory.ensures.value, c.deref-in-ForeignHistory-2.ensures.value, c.deref-in-ForeignHistory-3.ensures.value))
+    (exact_answer _ _ c.foreign_history.result c.foreign_history.ensures)
 
 pub returns-in-Pair : goal.returns-in-Pair
 returns-in-Pair c =
@@ -79,8 +82,10 @@ returns-in-Pair c =
 pub returns-in-PairHistory : goal.returns-in-PairHistory
 returns-in-PairHistory c =
     answer_at bytes_of c.args.job.now _ c.in-PairHistory.is
-    (PairHistory c.deref-in-PairHistory.result.now c.deref-in-PairHistory-2.result.now c.deref-in-PairHistory-3.result.now c.in-PairHistory.turns) c.pair_history.result
-    (cc (c.deref-in-PairHistory.ensures.value, c.deref-in-PairHistory-2.ensures.value, c.deref-in-PairHistory-3.ensures.value)) (exact_answer _ _ c.pair_history.result c.pair_history.ensures)
+    (PairHistory c.deref-in-PairHistory.result.now c.deref-in-PairHistory-2.result.now c.deref-in-PairHistory-3.result.now
+    c.in-PairHistory.turns) c.pair_history.result
+    (cc (c.deref-in-PairHistory.ensures.value, c.deref-in-PairHistory-2.ensures.value, c.deref-in-PairHistory-3.ensures.value))
+    (exact_answer _ _ c.pair_history.result c.pair_history.ensures)
 
 pub returns-in-From : goal.returns-in-From
 returns-in-From c =
