@@ -23,6 +23,7 @@ import memory
 import module_answers
 import pairs
 import prefixes
+import profiles
 import projections
 import replay_bytes
 import rests
@@ -35,6 +36,7 @@ CHAINS = [
     [("larger inputs", large.checks), ("memory errors", memory.checks)],
     [("examples", examples.checks), ("examples in other engines", engines.checks)],
     [("captured hosts", captures.checks)],
+    [("profiles", profiles.checks)],
     [("files that are cut", prefixes.checks)],
     [("two modules", pairs.checks)],
     [("a later call", rests.checks)],
