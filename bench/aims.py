@@ -97,8 +97,8 @@ def of_speed(module, name, few, many):
 class Spent:
     """Two runs of a command that are spent after FEW and MANY turns."""
 
-    def __init__(self, r3, command, module, script):
-        self.few, self.many = (profile([r3, command, module, script, str(turns)]) for turns in (FEW, MANY))
+    def __init__(self, r3, *words):
+        self.few, self.many = (profile([r3, *words, str(turns)]) for turns in (FEW, MANY))
 
     def a_turn(self):
         return (self.many.all - self.few.all) / (MANY - FEW)
@@ -129,6 +129,9 @@ def rows(r3, folder):
     yield "`make` on `hash`, a call of a hook, outside of the machine's loop", made.a_hook_call()
     for name in ("hash", "tokens"):
         yield f"`history`, a turn of `{name}`", Spent(r3, "history", *program(name)).a_turn()
+    for name in ("hash", "tokens"):
+        replay = os.path.join(HERE, name + ".replay.wasm")
+        yield f"`replay`, a turn of the replay module of `{name}`", Spent(r3, "replay", replay).a_turn()
 
 
 def print_rows(r3):

@@ -1,13 +1,15 @@
 -- Answers for the module and the script that bytes are, and what they say of calls that begin with them.
-use Rattle.std.proofs.Common.{◌≡◌, ◌⊎◌, inl, inr, ℕ, List, Result, Ok, Err, IfErr, sym, ◌∙◌, ap, subst}
-use Rattle.std.specs.Result.{IsErrAnd}
+use Rattle.std.proofs.Common.{◌≡◌, ◌⊎◌, inl, inr, ℕ, List, Result, Ok, Err, IfOk, IfErr, sym, ◌∙◌, ap, subst}
+use Rattle.std.proofs.lemmas.Result.{IfOk-weaker}
 use Rattle.wasm_syntax.specs.declared.modules.Module.{Module}
 use Rattle.host_script.specs.declared.scripts.Script.{Script}
 use Rattle.script_text.specs.Texts.{script_of_text}
+use Rattle.r3_faults.specs.Answers.{IsExactValue}
 use Rattle.r3_faults.specs.declared.faults.Fault.{Fault}
 use Rattle.r3_faults.specs.declared.faults.Fault.TheVariants.{Memory}
-use Rattle.r3_inputs.proofs.AnswerLemmas.{IsAnswer, answer-err, answer-passed, memory-err, passed, value-no, value-one}
+use Rattle.r3_inputs.proofs.AnswerLemmas.{IsAnswer, answer-err, memory-err, value-no, value-one}
 use Rattle.r3_inputs.specs.Inputs.{IsModuleOf, IsRefusedModule, IsRefusedScript, AreInputs, AreRefused, ByModule, ByScript}
+use Rattle.accepted_runs.specs.Runnable.{AreTaken}
 
 -- a module and a script
 abbrev pub both : Module → Script → Module × Script
@@ -68,33 +70,23 @@ module _ (module_bytes script_bytes : List ℕ) (q : Result Module Fault)
 
 -- ---- calls that begin with both
 
--- a call is refused for its inputs, or for what its module and script are
-abbrev pub IsWhy : (module_bytes script_bytes : List ℕ) → (Why : Module → Script → Fault → Type 0) → Fault → Type 0
-IsWhy module_bytes script_bytes Why fault =
-    AreRefused module_bytes script_bytes fault ⊎ ((m : Module) × (script : Script) × AreInputs module_bytes script_bytes m script × Why m script fault)
+-- the bytes are this module and this script
+abbrev pub AreBoth : (module_bytes script_bytes : List ℕ) → Module × Script → Type 0
+AreBoth module_bytes script_bytes read = AreInputs module_bytes script_bytes read.0 read.1
 
-module _ (module_bytes script_bytes : List ℕ) (q : Result (Module × Script) Fault)
-    (refused : (f : Fault) → AreRefused module_bytes script_bytes f → IsAnswer q f)
-    (accepted : (m : Module) (script : Script) → AreInputs module_bytes script_bytes m script → (q ≡ Ok (m, script)) ⊎ (q ≡ Err Memory)) where
-  -- the module and the script are not accepted, and the call passes the fault on
-  module _ (err : Fault) (is : q ≡ Err err) where
-    pub inputs-memory : {T : Type 0} (r : Result T Fault) → IsErrAnd r (λ other. other ≡ err) → (m : Module)
-        (script : Script) → AreInputs module_bytes script_bytes m script → IfErr r (λ other. other ≡ Memory)
-    inputs-memory r passes m script inputs =
-        passed r err (λ other. other ≡ Memory) passes (memory-err q (m, script) err is (accepted m script inputs))
-
-    pub inputs-answer : {T : Type 0} (r : Result T Fault) → IsErrAnd r (λ other. other ≡ err)
-        → (Why : Module → Script → Fault → Type 0) (fault : Fault) → IsWhy module_bytes script_bytes Why fault
-        → IsAnswer r fault
-    inputs-answer r passes Why fault (inl x) = answer-passed r err fault passes (answer-err q err fault is (refused fault x))
-    inputs-answer r passes Why fault (inr why) = answer-passed r err fault passes (inr (memory-err q (why.0, why.1) err is (accepted why.0 why.1 why.2)))
-
-  -- the module and the script are accepted
-  module _ (checked : Module) (script : Script) (is : q ≡ Ok (checked, script)) where
-    pub inputs-same : (P : Module → Script → Type 0) (m : Module) (other : Script) → AreInputs module_bytes script_bytes m other → P m other → P checked script
-    inputs-same P m other inputs p =
-        subst (λ (both : Module × Script). P both.0 both.1) (value-one q (checked, script) (m, other) is (accepted m other inputs)) p
-
-    pub inputs-why : (Why : Module → Script → Fault → Type 0) (fault : Fault) → IsWhy module_bytes script_bytes Why fault → Why checked script fault
-    inputs-why Why fault (inl x) = absurd (value-no q (checked, script) fault is (refused fault x))
-    inputs-why Why fault (inr why) = inputs-same (λ m script. Why m script fault) why.0 why.1 why.2 why.3
+-- a call that reads both is exact
+pub inputs_exact : (module_bytes script_bytes : List ℕ) (q : Result (Module × Script) Fault)
+    → IfOk q (λ read. AreTaken module_bytes script_bytes read.0 read.1)
+    → IfErr q (λ fault. (fault ≡ Memory) ⊎ AreRefused module_bytes script_bytes fault)
+    → ((f : Fault) → AreRefused module_bytes script_bytes f → IsAnswer q f)
+    → ((m : Module) (script : Script) → AreInputs module_bytes script_bytes m script
+    → (q ≡ Ok (m, script)) ⊎ (q ≡ Err Memory))
+    → IsExactValue (AreBoth module_bytes script_bytes) (AreRefused module_bytes script_bytes) q
+inputs_exact module_bytes script_bytes q taken cause refused accepted = record {
+  taken =
+      IfOk-weaker q (λ read. AreTaken module_bytes script_bytes read.0 read.1) (AreBoth module_bytes script_bytes)
+      (λ read is. is.inputs) taken;
+  cause = cause;
+  refused = refused;
+  accepted = λ read is. accepted read.0 read.1 is;
+}

@@ -1,3 +1,4 @@
 mod Refused
+pub mod FaultCases
 pub mod InputAnswers
 pub mod OneResult

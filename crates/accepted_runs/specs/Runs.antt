@@ -8,8 +8,10 @@ use Rattle.history_spec.specs.Step.{StepResult, Finished}
 use Rattle.history_spec.specs.Run.{Run, all_one, program_of, run_start, run_from}
 use Rattle.history_spec.specs.Budget.{IsOverWithin, IsSpent}
 use Rattle.host_play.specs.Results.{IsFault}
+use Rattle.host_play.specs.declared.results.PlayFault.{PlayFault}
+use Rattle.host_play.specs.declared.results.PlayFault.TheVariants as refusal
 use Rattle.r3_faults.specs.declared.faults.Fault.{Fault}
-use Rattle.r3_faults.specs.declared.faults.Fault.TheVariants.{Script as ScriptFault, Spent}
+use Rattle.r3_faults.specs.declared.faults.Fault.TheVariants.{HookOrder, Memory, Script as ScriptFault, Spent}
 
 -- the module links, and the run is over within the turns by this outcome
 pub record HasOutcome (m : Module) (script : Script) (turns : ℕ) (run : Run) (outcome : Outcome) : Type 0 where
@@ -38,3 +40,10 @@ pub record IsSpentFor (m : Module) (script : Script) (turns : ℕ) (fault : Faul
 pub data HasNoOutcome (m : Module) (script : Script) (turns : ℕ) (fault : Fault) : Type 0 where
   OfScript : (faulty : IsFaultyFor m script turns fault) → HasNoOutcome m script turns fault
   OfTurns : (spent : IsSpentFor m script turns fault) → HasNoOutcome m script turns fault
+
+-- a call's fault for a run that has no outcome, or no log
+abbrev pub run_fault : (turns : ℕ) → PlayFault → Fault
+run_fault turns (refusal.Fault turn kind) = ScriptFault turn kind
+run_fault turns refusal.Spent = Spent turns
+run_fault turns (refusal.Hook number) = HookOrder number
+run_fault turns refusal.Memory = Memory

@@ -9,4 +9,4 @@ mod runs;
 pub use host_play::PrintedRun;
 pub use inputs::inputs_of;
 pub use links::{start_store, supply_and_store, supply_that_links};
-pub use runs::printed_run;
+pub use runs::{printed_run, run_fault};

@@ -1,14 +1,11 @@
 // The run of the instantiation of an accepted module.
 
-ghost use Rattle.std.specs.Prelude.{◌≡◌, ◌⊎◌, Ok, IfErr, IfOk};
-ghost use Rattle.wasm_syntax.specs.declared.modules.Module.{Module};
-ghost use Rattle.host_script.specs.declared.scripts.Script.{Script};
-ghost use Rattle.history_spec.specs.Run.{run_start, program_of, start_in_store};
-ghost use Rattle.history_spec.specs.Step.{StepResult};
-ghost use Rattle.host_play.specs.Results.{Refuses, PrintsRun};
+ghost use Rattle.std.specs.Prelude.{◌≡◌, ◌⊎◌, IfErr, IfOk};
+ghost use Rattle.history_spec.specs.Run.{program_of, start_in_store};
+ghost use Rattle.host_play.specs.Results.{PrintsRun};
 ghost use Rattle.r3_faults.specs.declared.faults.Fault.TheVariants.{Memory};
 ghost use Rattle.accepted_runs.specs.Runnable.{CanRun, StartsWith};
-ghost use Rattle.accepted_runs.specs.Runs.{HasNoOutcome};
+ghost use Rattle.accepted_runs.specs.Runs.{HasNoOutcome, run_fault};
 
 use host_play::{Play, PlayFault, PrintedRun, print};
 use host_script::Script;
@@ -46,23 +43,18 @@ pub fn printed_run(
     };
     match print(alloc, play, turns) {
         Ok(printed) => Ok(printed),
-        Err(fault) => Err(fault_of(fault, turns)),
+        Err(fault) => Err(run_fault(fault, turns)),
     }
 }
 
-/// Why a run within a number of turns has no outcome, as the fault of a call.
-fn fault_of(fault: PlayFault, turns: u64) -> Fault
-    requires { (m : Module) × (script : Script) × (initial : StepResult)
-        × Refuses (program_of m script) initial turns fault }
-    ensures { (m : Module) (script : Script) (initial : StepResult)
-        → run_start m script ≡ Ok initial → Refuses (program_of m script) initial turns fault
-        → (result ≡ Memory) ⊎ HasNoOutcome m script turns result }
+/// The fault of a call for a run within a number of turns that has no outcome, or no log.
+pub fn run_fault(fault: PlayFault, turns: u64) -> Fault
+    ensures { result ≡ run_fault turns fault }
 {
     match fault {
         PlayFault::Fault { turn, kind } => Fault::Script { turn, kind },
         PlayFault::Spent => Fault::Spent { turns },
-        // A run without hooks never returns that a hook refused a call.
-        PlayFault::Hook { .. } => unreachable!(),
+        PlayFault::Hook { number } => Fault::HookOrder { number },
         PlayFault::Memory => Fault::Memory,
     }
 }

@@ -7,4 +7,4 @@ mod answers;
 mod scripts;
 
 pub use base::NoMemory;
-pub use scripts::script_with_hooks;
+pub use scripts::{count_of_imports, script_with_hooks};

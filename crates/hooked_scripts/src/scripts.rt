@@ -1,7 +1,7 @@
 // Scripts for instrumented modules.
 
 ghost use Rattle.std.specs.Prelude.{◌≡◌, ◌<◌, IfOk, length};
-ghost use Rattle.wasm_syntax.specs.Index.{func_indices};
+ghost use Rattle.wasm_syntax.specs.Index.{func_indices, imported_funcs};
 ghost use Rattle.wasm_flat.specs.Sizes.{list_limit};
 ghost use Rattle.host_script.specs.Fits.{Fits};
 ghost use Rattle.record_replay_spec.specs.HookedRuns.{hooked_script, renumbered_script};
@@ -12,7 +12,6 @@ use crate::actions::renumbered_actions;
 use crate::answers::hooked_answers;
 use base::NoMemory;
 use host_script::Script;
-use module_index::scope::Scope;
 use std::alloc::Global;
 use wasm_syntax::Module;
 
@@ -27,8 +26,17 @@ pub fn script_with_hooks(alloc: Global, module: &Module, script: Script) -> Resu
     requires few { length (func_indices «module».now) < list_limit }
     ensures { IfOk result (λ hooked. hooked ≡ script_with_hooks «module».now script) }
 {
-    let imports = Scope::of(alloc, module)?.imported_funcs() as u32;
+    let imports = count_of_imports(module, &script);
     hooked_script(alloc, imports, script)
+}
+
+/// The number of functions that a module imports, by a script that fits it, which has an answer for each.
+pub fn count_of_imports(_module: &Module, script: &Script) -> u32
+    requires fits { Fits _module.now script.now }
+    requires few { length (func_indices _module.now) < list_limit }
+    ensures { result ≡ imported_funcs _module.now }
+{
+    script.imports.as_slice().len() as u32
 }
 
 /// The converted script for a module that imports `imports` functions.

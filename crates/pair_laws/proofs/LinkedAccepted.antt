@@ -95,13 +95,13 @@ body_named func start (instr ∷ body) all = by (is_numbered instr) (λ k. body_
 abbrev refused_from : ℕ → List Func → List Refusal
 refused_from index funcs = flat_map (λ (f : ℕ × Func). refused_in f.0 f.1) (enumerate_from index funcs)
 
-funcs_unrefused : (index : ℕ) (funcs : List Func) → refused_from index funcs ≡ [] → AllByRecursion AreUnrefused funcs
+pub funcs_unrefused : (index : ℕ) (funcs : List Func) → refused_from index funcs ≡ [] → AllByRecursion AreUnrefused funcs
 funcs_unrefused index [] h = tt
 funcs_unrefused index (f ∷ funcs) h =
     let parts = nil_parts (refused_in index f) (refused_from (index + 1) funcs) h in
     (body_unrefused index 0 f.body parts.0, funcs_unrefused (index + 1) funcs parts.1)
 
-funcs_named : (index : ℕ) (funcs : List Func) → AllByRecursion AreUnrefused funcs → refused_from index funcs ≡ []
+pub funcs_named : (index : ℕ) (funcs : List Func) → AllByRecursion AreUnrefused funcs → refused_from index funcs ≡ []
 funcs_named index [] all = refl
 funcs_named index (f ∷ funcs) all =
     let own = body_named index 0 f.body all.0 in
@@ -109,26 +109,26 @@ funcs_named index (f ∷ funcs) all =
 
 -- ---- quantities
 
-abbrev FitsParameters : FuncType → Type 0
+abbrev pub FitsParameters : FuncType → Type 0
 FitsParameters ty = past MAX_PARAMETERS Parameters (length ty.params) ≡ None
 
-abbrev FitsEntries : Limits → Type 0
+abbrev pub FitsEntries : Limits → Type 0
 FitsEntries limits = past MAX_ENTRIES Table limits.min ≡ None
 
-abbrev FitsPages : Limits → Type 0
+abbrev pub FitsPages : Limits → Type 0
 FitsPages limits = past MAX_PAGES Memory limits.min ≡ None
 
-abbrev HasFewLocals : Bool → Func → Type 0
+abbrev pub HasFewLocals : Bool → Func → Type 0
 HasFewLocals hooked f = past (max_locals hooked) Locals (count_of_locals f) ≡ None
 
 -- no quantity of a module is past its limit
-record AreWithin (hooked : Bool) (m : Module) : Type 0 where
-  types : AllByRecursion FitsParameters m.types
-  tables : AllByRecursion FitsEntries (all_tables m)
-  memories : AllByRecursion FitsPages (all_memories m)
-  locals : AllByRecursion (HasFewLocals hooked) m.funcs
+pub record AreWithin (hooked : Bool) (m : Module) : Type 0 where
+  pub types : AllByRecursion FitsParameters m.types
+  pub tables : AllByRecursion FitsEntries (all_tables m)
+  pub memories : AllByRecursion FitsPages (all_memories m)
+  pub locals : AllByRecursion (HasFewLocals hooked) m.funcs
 
-are_within : (hooked : Bool) (m : Module) → quantities_past hooked m ≡ [] → AreWithin hooked m
+pub are_within : (hooked : Bool) (m : Module) → quantities_past hooked m ≡ [] → AreWithin hooked m
 are_within hooked m h =
     let types = types_past m.types in
     let tables = tables_past (all_tables m) in
@@ -143,7 +143,7 @@ are_within hooked m h =
       locals = none_of (λ (f : Func). past (max_locals hooked) Locals (count_of_locals f)) m.funcs a.1;
     }
 
-none_past : (hooked : Bool) (m : Module) → AreWithin hooked m → quantities_past hooked m ≡ []
+pub none_past : (hooked : Bool) (m : Module) → AreWithin hooked m → quantities_past hooked m ≡ []
 none_past hooked m within =
     let types = none_from (λ (ty : FuncType). past MAX_PARAMETERS Parameters (length ty.params)) m.types within.types in
     let tables = none_from (λ (l : Limits). past MAX_ENTRIES Table l.min) (all_tables m) within.tables in

@@ -1,6 +1,8 @@
 //! The words that a program is called with.
 #![tactic(auto)]
 
+ghost use Rattle.std.specs.Prelude.{◌≡◌, drop};
+
 use base::NoMemory;
 use std::io::ErrorKind;
 use std::rt::Env;
@@ -21,5 +23,15 @@ pub fn words_of_call<R: Env + AllocGlobal>(rt: &R) -> Result<Vec<String>, NoMemo
 
 /// The words after the program's name, each a text.
 fn words<R: Env + AllocGlobal>(rt: &R) -> io::Result<Vec<String>> {
-    Ok(env::args(rt)?.skip(1).collect(rt.alloc())?)
+    Ok(after_name(env::args(rt)?.collect(rt.alloc())?))
+}
+
+/// All words but the first, which is the program's name. Takes no memory.
+fn after_name(mut all: Vec<String>) -> Vec<String>
+    ensures { result.items ≡ drop 1 all.items }
+{
+    if !all.is_empty() {
+        all.remove(0);
+    }
+    all
 }

@@ -1,58 +1,25 @@
--- Causes of faults, from one file of several and from a part of a call.
-use Rattle.std.proofs.Common.{◌≡◌, ℕ, zero, suc, ◌+◌, ◌<◌, ◌≤◌, Bool, true, false, cond, List, [], ◌∷◌, ◌++◌, length, get_or, map, take, drop, find, zip, nat_lt, refl, sym, ◌∙◌, ap, subst, add-one, arith, Option, Some, None, String, Vec, string_bytes}
+-- Causes of faults, from some files of several; what a call that loads files implies for a call that passes its result on.
+use Rattle.std.proofs.Common.{◌≡◌, ℕ, ◌+◌, ◌≤◌, ◌⊎◌, List, [], ◌∷◌, ◌++◌, length, map, find, nat_lt, refl, sym, ◌∙◌, ap, subst, arith, Bool, Option, Some, None, Result, Ok, Err, IfOk, IfErr, OnOk, Vec, inl, inr}
 use Rattle.std.specs.List.{Contains}
 use Rattle.std.specs.Option.{option_or, ForSome}
-use Rattle.std.proofs.lemmas.List.{length-map, map-append, take_more}
+use Rattle.std.specs.Result.{IsErrAnd}
+use Rattle.std.proofs.lemmas.List.{map-append}
 use Rattle.std.proofs.lemmas.List.Elements.{Contains-append_left, Contains-append_right}
 use Rattle.std.proofs.lemmas.List.Folds.{find-append}
 use Rattle.r3_outside.specs.Count.{Rose, Took, NoneFell}
 use Rattle.r3_outside.specs.Contents.{FileMap, file_bytes}
-use Rattle.r3_core.specs.Words.{texts}
-use Rattle.r3_core.specs.Causes.{Reading, reading_of, first_longer, IsLoadCause, AreBytesOf, AreWithin, all_bytes}
+use Rattle.r3_core.specs.Causes.{Reading, reading_of, first_longer, IsFile, IsLoadCause, IsLoading}
 use Rattle.r3_faults.specs.declared.faults.Fault.{Fault}
 use Rattle.r3_faults.specs.declared.faults.Fault.TheVariants as faults
 
-module _ {Y : Type 0} where
-  -- the files before one, that one, and the files after it
-  pub files-at : (names : List (String Y)) (limits : List ℕ) (i : ℕ) (d : String Y) (e : ℕ) → i < length names
-      → length names ≡ length limits
-      → take i (zip (texts names) limits) ++ ((
-        string_bytes
-            (get_or names i d),
-        get_or limits i e,
-      ) ∷ drop (suc i) (zip (texts names) limits)) ≡ zip (texts names) limits
-  files-at [] limits i d e h same = absurd (omega arith)
-  files-at (n ∷ ns) [] i d e h same = absurd (omega arith)
-  files-at (n ∷ ns) (l ∷ ls) zero d e h same = refl
-  files-at (n ∷ ns) (l ∷ ls) (suc i) d e h same =
-      ap (λ files. (string_bytes n, l) ∷ files) (files-at ns ls i d e (omega arith) (omega arith))
-
-  -- one more file
-  pub files-more : (names : List (String Y)) (limits : List ℕ) (i : ℕ) (d : String Y) (e : ℕ) → i < length names
-      → length names ≡ length limits
-      → take (suc i) (zip
-      (texts names) limits) ≡ take i (zip (texts names) limits) ++ (string_bytes (get_or names i d), get_or limits i e) ∷ []
-  files-more [] limits i d e h same = absurd (omega arith)
-  files-more (n ∷ ns) [] i d e h same = absurd (omega arith)
-  files-more (n ∷ ns) (l ∷ ls) zero d e h same = refl
-  files-more (n ∷ ns) (l ∷ ls) (suc i) d e h same =
-      ap (λ files. (string_bytes n, l) ∷ files) (files-more ns ls i d e (omega arith) (omega arith))
-
 module _ {X : Type 0} (p : X → Bool) where
-  -- one more item that is not found leaves nothing found
-  pub find-more : (xs : List X) (x : X) → find p xs ≡ None → find p (x ∷ []) ≡ None → find p (xs ++ x ∷ []) ≡ None
-  find-more xs x none last =
-      find-append p xs (x ∷ []) ∙ ap (λ found. option_or found (find p (x ∷ []))) none ∙ last
+  -- the first item of the first list, or of the second one
+  pub find-left : (xs ys : List X) (x : X) → find p xs ≡ Some x → find p (xs ++ ys) ≡ Some x
+  find-left xs ys x here = find-append p xs ys ∙ ap (λ found. option_or found (find p ys)) here
 
-  first-of : (x y : X) (other : Option X) (b : Bool) → cond b (Some x) None ≡ Some y → cond b (Some x) other ≡ Some y
-  first-of x y other true e = e
-  first-of x y other false e = cc e
-
-  -- the first one after others that don't pass
-  pub find-after : (xs : List X) (x : X) (rest : List X) (y : X) → find p xs ≡ None → find p (x ∷ []) ≡ Some y
-      → find p (xs ++ x ∷ rest) ≡ Some y
-  find-after xs x rest y none here =
-      find-append p xs (x ∷ rest) ∙ ap (λ found. option_or found (find p (x ∷ rest))) none ∙ first-of x y (find p rest) (p x) here
+  pub find-right : (xs ys : List X) (found : Option X) → find p xs ≡ None → find p ys ≡ found → find p (xs ++ ys) ≡ found
+  find-right xs ys found none here =
+      find-append p xs ys ∙ ap (λ found. option_or found (find p ys)) none ∙ here
 
 -- a file was not loaded: it could not be read, or it is too long
 module _ (reading : Reading) (files : List (List ℕ × ℕ)) (P : Fault → Type 0)
@@ -106,94 +73,137 @@ module _ (reading : Reading) (files : List (List ℕ × ℕ)) (P : Fault → Typ
   load-cases (faults.NoCall k calls) c = absurd c
   load-cases faults.HookedLimit c = absurd c
 
--- the cause of one file's fault, among files before it that are not too long
-module _ (known : Option FileMap) (fb fm fn tb tm tn : List ℕ → ℕ) (before : List (List ℕ × ℕ)) (file : List ℕ × ℕ)
-    (after : List (List ℕ × ℕ)) (f : NoneFell fb fm) (t : NoneFell tb tm)
-    (within : ForSome known (λ known. first_longer known before ≡ None)) where
-  pub IsLoadCause-among : (fault : Fault) → IsLoadCause (reading_of known fm fn tm tn) (file ∷ []) fault
-      → IsLoadCause (reading_of known fb fn tb tn) (before ++ file ∷ after) fault
-  IsLoadCause-among =
-      load-cases (reading_of known fm fn tm tn) (file ∷ [])
-      (λ fault. IsLoadCause (reading_of known fb fn tb tn) (before ++ file ∷ after) fault)
+abbrev is_longer : FileMap → List ℕ × ℕ → Bool
+is_longer known file = nat_lt file.1 (length (file_bytes known file.0))
+
+-- the cause of a fault of the first files of some
+pub cause_of_first : (reading : Reading) (xs ys : List (List ℕ × ℕ)) (fault : Fault)
+    → IsLoadCause reading xs fault → IsLoadCause reading (xs ++ ys) fault
+cause_of_first reading xs ys =
+    load-cases reading xs (λ fault. IsLoadCause reading (xs ++ ys) fault)
+    (λ name listed rose. (
+      subst (λ names. Contains names name) (sym (map-append (λ file. file.0) xs ys))
+          (Contains-append_left (map (λ file. file.0) xs) (map (λ file. file.0) ys) name listed),
+      rose,
+    ))
+    (λ name limit listed took first. (
+      Contains-append_left xs ys (name, limit) listed,
+      took,
+      λ known e. find-left (is_longer known) xs ys (name, limit) (first known e),
+    ))
+
+-- the cause of a fault of the last files of some, where the first ones are not too long
+module _ (contents : Option FileMap) (fb fm fn tb tm tn : List ℕ → ℕ) (xs ys : List (List ℕ × ℕ)) (f : NoneFell fb fm)
+    (t : NoneFell tb tm) (within : ForSome contents (λ known. first_longer known xs ≡ None)) where
+  pub cause_of_last : (fault : Fault) → IsLoadCause (reading_of contents fm fn tm tn) ys fault
+      → IsLoadCause (reading_of contents fb fn tb tn) (xs ++ ys) fault
+  cause_of_last =
+      load-cases (reading_of contents fm fn tm tn) ys
+      (λ fault. IsLoadCause (reading_of contents fb fn tb tn) (xs ++ ys) fault)
       (λ name listed rose. (
-        subst (λ names. Contains names name) (sym (map-append (λ file. file.0) before (file ∷ after)))
-            (Contains-append_right (map (λ file. file.0) before) _ name
-            (Contains-append_left (file.0 ∷ []) (map (λ file. file.0) after) name listed)),
+        subst (λ names. Contains names name) (sym (map-append (λ file. file.0) xs ys))
+            (Contains-append_right (map (λ file. file.0) xs) (map (λ file. file.0) ys) name listed),
         omega (arith, rose, f name),
       ))
       (λ name limit listed took first. (
-        Contains-append_right before _ (name, limit) (Contains-append_left (file ∷ []) after (name, limit) listed),
+        Contains-append_right xs ys (name, limit) listed,
         omega (arith, took, t name),
-        λ files e. find-after _ before file after (name, limit) (within files e) (first files e),
+        λ known e. find-right (is_longer known) xs ys (Some (name, limit)) (within known e) (first known e),
       ))
 
-module _ {Y : Type 0} (names : List (String Y)) (limits : List ℕ) where
-  -- the cause of a fault of the file at `i`, if the files before it are not too long
-  pub IsLoadCause-at : (i : ℕ) (d : String Y) (known known' : Option FileMap) (fb fm fn tb tm tn : List ℕ → ℕ) (name : List ℕ)
-      → i < length names → length names ≡ length limits → name ≡ string_bytes (get_or names i d) → known' ≡ known
-      → NoneFell fb fm → NoneFell tb tm → ForSome known (λ known. first_longer known (take i (zip (texts names) limits)) ≡ None)
-      → (fault : Fault) → IsLoadCause (reading_of known' fm fn tm tn) ((name, get_or limits i 0) ∷ []) fault
-      → IsLoadCause (reading_of known fb fn tb tn) (zip (texts names) limits) fault
-  IsLoadCause-at i d known known' fb fm fn tb tm tn name h same is_name same_reported f t within fault cause =
-      let here : IsLoadCause (reading_of known fm fn tm tn) ((string_bytes (get_or names i d), get_or limits i 0) ∷ []) fault =
-      subst (λ name. IsLoadCause (reading_of known fm fn tm tn) ((name, get_or limits i 0) ∷ []) fault) is_name
-      (subst (λ known. IsLoadCause (reading_of known fm fn tm tn) ((name, get_or limits i 0) ∷ []) fault) same_reported cause)
-      in
-      subst (λ files. IsLoadCause (reading_of known fb fn tb tn) files fault) (files-at names limits i d 0 h same)
-      (IsLoadCause-among known fb fm fn tb tm tn _ _ _ f t within fault here)
+-- ---- calls that load files
 
-  -- no file up to the one at `i` is too long
-  pub first_longer-more : (known : FileMap) (i : ℕ) (d : String Y) (name : List ℕ) → i < length names
-      → length names ≡ length limits → name ≡ string_bytes (get_or names i d)
-      → first_longer known (take i (zip (texts names) limits)) ≡ None
-      → first_longer known ((name, get_or limits i 0) ∷ []) ≡ None
-      → first_longer known (take (i + 1) (zip (texts names) limits)) ≡ None
-  first_longer-more known i d name h same is_name before here =
-      let here' = subst (λ name. first_longer known ((name, get_or limits i 0) ∷ []) ≡ None) is_name here in
-      ap (λ n. first_longer known (take n (zip (texts names) limits))) (add-one i)
-      ∙ ap (first_longer known) (files-more names limits i d 0 h same)
-      ∙ find-more (λ file. nat_lt file.1 (length (file_bytes known file.0))) (take i (zip (texts names) limits))
-      (string_bytes (get_or names i d), get_or limits i 0) before here'
+-- what a call that loads the file of a name ensures, clause by clause
+pub file_loading : {Z : Type 0} (contents : Option FileMap) (fb fn tb tn : List ℕ → ℕ) (name written : List ℕ) (limit : ℕ)
+    (r : Result (Vec ℕ Z) Fault) → name ≡ written → NoneFell fb fn → NoneFell tb tn
+    → IfOk r (λ bytes. ForSome contents (λ known. bytes.items ≡ file_bytes known name))
+    → OnOk r ((other : List ℕ) → fn other ≡ fb other) → IfOk r (λ bytes. length bytes.items ≤ limit)
+    → OnOk r (ForSome contents (λ known. first_longer known ((name, limit) ∷ []) ≡ None))
+    → IfErr r (λ fault. (fault ≡ faults.Memory) ⊎ IsLoadCause (reading_of contents fb fn tb tn) ((name, limit) ∷ []) fault)
+    → IsLoading (reading_of contents fb fn tb tn) ((written, limit) ∷ [])
+    (λ bytes. IsFile contents (written, limit) bytes.items) r
+file_loading contents fb fn tb tn name written limit r is f t bytes failed short within cause =
+    subst (λ name. IsLoading (reading_of contents fb fn tb tn) ((name, limit) ∷ []) (λ bytes. IsFile contents (name, limit) bytes.items) r) is
+    (record {
+      faults_never_fall = f;
+      taken_never_falls = t;
+      value = both r bytes short;
+      failed_none = failed;
+      within_limits = within;
+      cause = cause;
+    })
+  where
+    both : {Z : Type 0} (r : Result (Vec ℕ Z) Fault)
+        → IfOk r (λ bytes. ForSome contents (λ known. bytes.items ≡ file_bytes known name))
+        → IfOk r (λ bytes. length bytes.items ≤ limit) → IfOk r (λ bytes. IsFile contents (name, limit) bytes.items)
+    both (Ok bytes) contained short = record { contained = contained; short = short }
+    both (Err fault) contained short = tt
 
--- all files
-pub files-all : {Y : Type 0} (names : List (String Y)) (limits : List ℕ) (i : ℕ) → length names ≤ i
-    → take i (zip (texts names) limits) ≡ zip (texts names) limits
-files-all [] limits zero h = refl
-files-all [] limits (suc i) h = refl
-files-all (n ∷ ns) [] zero h = refl
-files-all (n ∷ ns) [] (suc i) h = refl
-files-all (n ∷ ns) (l ∷ ls) zero h = absurd (omega arith)
-files-all (n ∷ ns) (l ∷ ls) (suc i) h = ap (λ files. (string_bytes n, l) ∷ files) (files-all ns ls i (omega arith))
+-- the fault of a call that loads files, passed on
+pub passed_on : {V W : Type 0} (reading : Reading) (files : List (List ℕ × ℕ)) (P : V → Type 0) (Q : W → Type 0)
+    (e : Fault) (q : Result W Fault) → IsLoading reading files P (Err e) → IsErrAnd q (λ other. other ≡ e)
+    → IsLoading reading files Q q
+passed_on reading files P Q e (Ok w) loading passes = absurd passes
+passed_on reading files P Q e (Err other) loading passes = record {
+  faults_never_fall = loading.faults_never_fall;
+  taken_never_falls = loading.taken_never_falls;
+  value = tt;
+  failed_none = tt;
+  within_limits = tt;
+  cause = subst (λ fault. (fault ≡ faults.Memory) ⊎ IsLoadCause reading files fault) (sym passes) loading.cause;
+}
 
--- the bytes of one more file
-pub AreBytesOf-more : {Y Z : Type 0} (contents : Option FileMap) (names : List (String Y)) (i : ℕ) (d : String Y)
-    (loaded more : List (Vec ℕ Z)) (bytes : Vec ℕ Z)
-    → i < length names → more ≡ loaded ++ bytes ∷ [] → AreBytesOf contents (texts (take i names)) (all_bytes loaded)
-    → ForSome contents (λ known. bytes.items ≡ file_bytes known (string_bytes (get_or names i d)))
-    → AreBytesOf contents (texts (take (i + 1) names)) (all_bytes more)
-AreBytesOf-more contents names i d loaded more bytes h pushed before here = λ known e.
-    let one = string_bytes (get_or names i d) in
-    ap all_bytes pushed
-    ∙ map-append (λ bytes. bytes.items) loaded (bytes ∷ [])
-    ∙ ap (λ l. l ++ bytes.items ∷ []) (before known e)
-    ∙ ap (λ x. map (file_bytes known) (texts (take i names)) ++ x ∷ []) (here known e)
-    ∙ sym (map-append (file_bytes known) (texts (take i names)) (one ∷ []))
-    ∙ ap (map (file_bytes known)) (sym (map-append string_bytes (take i names) (get_or names i d ∷ [])))
-    ∙ ap (λ l. map (file_bytes known) (texts l)) (sym (take_more names i d h))
+-- the first files are not loaded, and the call returns
+pub stopped_early : {V W : Type 0} (reading : Reading) (xs ys : List (List ℕ × ℕ)) (P : V → Type 0) (Q : W → Type 0)
+    (e : Fault) (q : Result W Fault) → IsLoading reading xs P (Err e) → IsErrAnd q (λ other. other ≡ e)
+    → IsLoading reading (xs ++ ys) Q q
+stopped_early reading xs ys P Q e q loading passes =
+    passed_on reading (xs ++ ys) P Q e q
+    (record {
+      faults_never_fall = loading.faults_never_fall;
+      taken_never_falls = loading.taken_never_falls;
+      value = tt;
+      failed_none = tt;
+      within_limits = tt;
+      cause = elim loading.cause [ inl memory ↦ inl memory | inr cause ↦ inr (cause_of_first reading xs ys e cause) ];
+    })
+    passes
 
--- one more list within its limit
-AreWithin-after : (lists : List (List ℕ)) (bytes : List ℕ) (limits : List ℕ) → length lists < length limits
-    → AreWithin lists limits → length bytes ≤ get_or limits (length lists) 0 → AreWithin (lists ++ bytes ∷ []) limits
-AreWithin-after [] bytes [] h within short = absurd (omega (arith, h))
-AreWithin-after [] bytes (limit ∷ limits) h within short = (short, tt)
-AreWithin-after (list ∷ lists) bytes [] h within short = absurd (omega (arith, h))
-AreWithin-after (list ∷ lists) bytes (limit ∷ limits) h within short = (within.0, AreWithin-after lists bytes limits (omega (arith, h)) within.1 short)
+-- the first files are loaded, and then the last ones
+module _ {U V W : Type 0} (contents later : Option FileMap) (fb fm fn tb tm tn : List ℕ → ℕ) (xs ys : List (List ℕ × ℕ))
+    (P : U → Type 0) (R : V → Type 0) (Q : W → Type 0) (u : U)
+    (first : IsLoading (reading_of contents fb fm tb tm) xs P (Ok u)) (same : later ≡ contents) where
+  -- the last files are not loaded, and the call returns
+  pub stopped_late : (e : Fault) (q : Result W Fault) → IsLoading (reading_of later fm fn tm tn) ys R (Err e)
+      → IsErrAnd q (λ other. other ≡ e) → IsLoading (reading_of contents fb fn tb tn) (xs ++ ys) Q q
+  stopped_late e q next passes =
+      let here = subst (λ contents. IsLoading (reading_of contents fm fn tm tn) ys R (Err e)) same next in
+      passed_on (reading_of contents fb fn tb tn) (xs ++ ys) R Q e q
+      (record {
+        faults_never_fall = λ name. omega (arith, first.faults_never_fall name, next.faults_never_fall name);
+        taken_never_falls = λ name. omega (arith, first.taken_never_falls name, next.taken_never_falls name);
+        value = tt;
+        failed_none = tt;
+        within_limits = tt;
+        cause =
+            elim here.cause [
+              | inl memory ↦ inl memory
+              | inr cause ↦ inr
+                  (cause_of_last contents fb fm fn tb tm tn xs ys first.faults_never_fall first.taken_never_falls
+                  first.within_limits e cause)
+            ];
+      })
+      passes
 
-pub AreWithin-more : {Y Z : Type 0} (names : List (String Y)) (loaded more : List (Vec ℕ Z)) (bytes : Vec ℕ Z) (limits : List ℕ) (i : ℕ)
-    → more ≡ loaded ++ bytes ∷ [] → length loaded ≡ i → length names ≡ length limits → i < length names
-    → AreWithin (all_bytes loaded) limits → length bytes.items ≤ get_or limits i 0 → AreWithin (all_bytes more) limits
-AreWithin-more names loaded more bytes limits i pushed count each h before short =
-    let listed : length (all_bytes loaded) ≡ i = length-map loaded (λ bytes. bytes.items) ∙ count in
-    subst (λ lists. AreWithin lists limits) (sym (ap all_bytes pushed ∙ map-append (λ bytes. bytes.items) loaded (bytes ∷ [])))
-    (AreWithin-after (all_bytes loaded) bytes.items limits (omega (arith, listed, each, h)) before
-    (subst (λ k. length bytes.items ≤ get_or limits k 0) (sym listed) short))
+  -- all are loaded
+  pub all_loaded : (v : V) (w : W) → IsLoading (reading_of later fm fn tm tn) ys R (Ok v) → (P u → R v → Q w)
+      → IsLoading (reading_of contents fb fn tb tn) (xs ++ ys) Q (Ok w)
+  all_loaded v w next follows = record {
+    faults_never_fall = λ name. omega (arith, first.faults_never_fall name, next.faults_never_fall name);
+    taken_never_falls = λ name. omega (arith, first.taken_never_falls name, next.taken_never_falls name);
+    value = follows first.value next.value;
+    failed_none = λ name. next.failed_none name ∙ first.failed_none name;
+    within_limits = λ known e.
+        find-right (is_longer known) xs ys None (first.within_limits known e) (next.within_limits known (same ∙ e));
+    cause = tt;
+  }

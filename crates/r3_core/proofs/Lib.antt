@@ -3,12 +3,5 @@ pub mod RefusalLemmas
 pub mod ResultLemmas
 pub mod StatusLemmas
 pub mod WordLemmas
-pub mod WorldOutcomes
-pub mod ReplayFunctions
-pub mod SourceCommands
-pub mod FileFacts
-pub mod PairFacts
-pub mod FileStages
-pub mod ReadDecls
-pub mod CommandLimits
-pub mod Dispatch
+pub mod JobLemmas
+pub mod Replayed

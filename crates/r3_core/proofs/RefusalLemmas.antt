@@ -33,35 +33,33 @@ use Rattle.r3_show.specs.FileLines.{IsShowRefusal, fault_of}
 use Rattle.sha2.specs.Sha256.{sha256}
 use Rattle.r3_instrument.specs.InstrumentedBytes as hooked
 use Rattle.r3_instrument.specs.InstrumentedBytes.{IsHookedRefusal}
-use Rattle.r3_make.specs.LogFiles as logs
-use Rattle.r3_make.specs.LogFiles.{HasNoModuleLog, IsLogRefusal, record_fault}
-use Rattle.r3_make.proofs.FaultCases.{by_cause as of_record}
+use Rattle.r3_record.specs.LogFiles as logs
+use Rattle.r3_record.specs.LogFiles.{HasNoModuleLog, IsLogRefusal}
+use Rattle.accepted_runs.specs.Runs.{run_fault}
+use Rattle.accepted_runs.proofs.FaultCases.{by_cause as of_record}
 use Rattle.trace_model.specs.Weight.{tape_weight}
 use Rattle.r3_reduce.specs.TapeFiles.{IsReduceRefusal}
-use Rattle.r3_make.specs.BuildRefusals as tapes
-use Rattle.r3_make.specs.BuildRefusals.{IsBuildRefusal, IsUntaken}
+use Rattle.r3_build.specs.BuildRefusals as tapes
+use Rattle.r3_build.specs.BuildRefusals.{IsBuildRefusal, IsUntaken}
 use Rattle.decl_text.specs.declared.faults.DeclFault.{DeclFault}
 use Rattle.decl_text.specs.declared.faults.DeclFault.TheVariants as decl
 use Rattle.pair_spec.specs.declared.faults.PairFault.{PairFault}
 use Rattle.pair_spec.specs.declared.faults.PairFault.TheVariants as pair
-use Rattle.r3_core.specs.ForeignInputs as foreign
-use Rattle.r3_core.specs.ForeignInputs.{foreign_source, AreUndeclared}
-use Rattle.r3_core.specs.PairInputs as pairs
-use Rattle.r3_core.specs.PairInputs.{pair_source, AreRefusedPairBytes}
-use Rattle.r3_core.specs.Sources as sources
-use Rattle.r3_core.specs.Sources.{Source, AreRefusedWithScript, HasNoHistory, HasNoReplay}
-use Rattle.r3_core.specs.WorldReplays as world_replays
-use Rattle.r3_core.specs.WorldReplays.{IsWorldUnmade}
-use Rattle.r3_core.specs.WorldRuns as worlds
-use Rattle.r3_core.specs.WorldRuns.{WorldRun}
+use Rattle.r3_instances.specs.ForeignInputs as foreign
+use Rattle.r3_instances.specs.ForeignInputs.{foreign_source, AreUndeclared}
+use Rattle.r3_instances.specs.PairInputs as pairs
+use Rattle.r3_instances.specs.PairInputs.{pair_source, AreRefusedPairBytes}
+use Rattle.r3_instances.specs.Sources as sources
+use Rattle.r3_instances.specs.Sources.{Source, AreRefusedWithScript, HasNoHistory, HasNoReplay}
+use Rattle.r3_instances.specs.WorldReplays as world_replays
+use Rattle.r3_instances.specs.WorldReplays.{IsWorldUnmade}
+use Rattle.r3_instances.specs.WorldRuns as worlds
+use Rattle.r3_instances.specs.WorldRuns.{WorldRun}
 use Rattle.load_maker.specs.Loads.{load_script}
 use Rattle.load_maker.specs.declared.load_module.TheConstants.{LOAD_MODULE}
-use Rattle.r3_core.specs.declared.words.Command.{Command}
-use Rattle.r3_core.specs.declared.words.Command.TheVariants.{Make, Instrument, Record, Reduce, Build, History, Replay, Show, Load, Foreign, ForeignHistory, Pair, PairHistory, From}
-use Rattle.r3_core.specs.Words.{form}
-use Rattle.r3_core.specs.declared.words.Numbers.{Numbers}
-use Rattle.r3_core.specs.declared.words.Numbers.TheVariants.{Empty, One, Two}
-use Rattle.r3_core.specs.Causes.{IsRefusal}
+use Rattle.r3_core.specs.declared.jobs.Job.{Job}
+use Rattle.r3_core.specs.declared.jobs.Job.TheVariants.{Make, Instrument, Record, Reduce, Build, History, Replay, Show, Load, Foreign, ForeignHistory, Pair, PairHistory, From}
+use Rattle.r3_core.specs.Meanings.{IsRefusal}
 
 -- ---- bytes that are refused
 
@@ -180,7 +178,7 @@ unlogged-status m script turns fault (logs.OfScript form has_form refused) =
 unlogged-status m script turns fault (logs.OfLog form has_form played is_script (logs.OfLink u)) =
     named-other fault (unlinked.link_fault u.found) u.named (link-other u.found u.differs)
 unlogged-status m script turns fault (logs.OfLog form has_form played is_script (logs.OfRun supply store links u)) =
-    named-other fault (record_fault turns u.found) u.named
+    named-other fault (run_fault turns u.found) u.named
     (of_record (λ fault. is_other (status_of fault) ≡ true) turns (λ turn kind. refl) refl (λ number. refl) u.found u.differs)
 
 record-status : (h s : List ℕ) (turns : ℕ) (fault : Fault) → IsLogRefusal h s turns fault → IsOther (status_of fault)
@@ -268,92 +266,22 @@ module _ {X : Type 0} (source : Source X) (script_bytes : List ℕ) (turns : ℕ
   no_history-status (sources.OfInputs refused) = script_inputs-other refused
   no_history-status (sources.OfRun x played inputs unprinted) = world_unprinted-status (source.run x played) unprinted
 
-pub refusal-status : (command : Command) (loaded : List (List ℕ)) (numbers : Numbers) (fault : Fault)
-    → IsRefusal command loaded numbers fault → IsOther (status_of fault)
-refusal-status Make [] numbers fault c = absurd c
-refusal-status Make (m ∷ []) numbers fault c = absurd c
-refusal-status Make (m ∷ s ∷ []) Empty fault c = absurd c
-refusal-status Make (m ∷ s ∷ []) (One turns) fault c = make-status m s turns fault c
-refusal-status Make (m ∷ s ∷ []) (Two turns second) fault c = absurd c
-refusal-status Make (m ∷ s ∷ t ∷ more) numbers fault c = absurd c
-refusal-status Instrument [] numbers fault c = absurd c
-refusal-status Instrument (m ∷ []) Empty fault c = hooked-status m fault c
-refusal-status Instrument (m ∷ []) (One number) fault c = absurd c
-refusal-status Instrument (m ∷ []) (Two number second) fault c = absurd c
-refusal-status Instrument (m ∷ t ∷ more) numbers fault c = absurd c
-refusal-status Record [] numbers fault c = absurd c
-refusal-status Record (h ∷ []) numbers fault c = absurd c
-refusal-status Record (h ∷ s ∷ []) Empty fault c = absurd c
-refusal-status Record (h ∷ s ∷ []) (One turns) fault c = record-status h s turns fault c
-refusal-status Record (h ∷ s ∷ []) (Two turns second) fault c = absurd c
-refusal-status Record (h ∷ s ∷ t ∷ more) numbers fault c = absurd c
-refusal-status Reduce [] numbers fault c = absurd c
-refusal-status Reduce (log ∷ []) Empty fault c = reduce-status log fault c
-refusal-status Reduce (log ∷ []) (One number) fault c = absurd c
-refusal-status Reduce (log ∷ []) (Two number second) fault c = absurd c
-refusal-status Reduce (log ∷ t ∷ more) numbers fault c = absurd c
-refusal-status Build [] numbers fault c = absurd c
-refusal-status Build (m ∷ []) numbers fault c = absurd c
-refusal-status Build (m ∷ s ∷ []) numbers fault c = absurd c
-refusal-status Build (m ∷ s ∷ t ∷ []) Empty fault c = build-status m s t fault c
-refusal-status Build (m ∷ s ∷ t ∷ []) (One number) fault c = absurd c
-refusal-status Build (m ∷ s ∷ t ∷ []) (Two number second) fault c = absurd c
-refusal-status Build (m ∷ s ∷ t ∷ x ∷ more) numbers fault c = absurd c
-refusal-status History [] numbers fault c = absurd c
-refusal-status History (m ∷ []) numbers fault c = absurd c
-refusal-status History (m ∷ s ∷ []) Empty fault c = absurd c
-refusal-status History (m ∷ s ∷ []) (One turns) fault c = history-status m s turns fault c
-refusal-status History (m ∷ s ∷ []) (Two turns second) fault c = absurd c
-refusal-status History (m ∷ s ∷ t ∷ more) numbers fault c = absurd c
-refusal-status Replay [] numbers fault c = absurd c
-refusal-status Replay (binary ∷ []) Empty fault c = absurd c
-refusal-status Replay (binary ∷ []) (One turns) fault c = replay-status binary turns fault c
-refusal-status Replay (binary ∷ []) (Two turns second) fault c = absurd c
-refusal-status Replay (binary ∷ t ∷ more) numbers fault c = absurd c
-refusal-status Show [] numbers fault c = absurd c
-refusal-status Show (trace ∷ []) Empty fault c = show-status trace fault c
-refusal-status Show (trace ∷ []) (One number) fault c = absurd c
-refusal-status Show (trace ∷ []) (Two number second) fault c = absurd c
-refusal-status Show (trace ∷ t ∷ more) numbers fault c = absurd c
-refusal-status Load [] Empty fault c = absurd c
-refusal-status Load [] (One number) fault c = make-status LOAD_MODULE (load_script number) LOAD_TURNS fault c
-refusal-status Load [] (Two number second) fault c = absurd c
-refusal-status Load (m ∷ more) numbers fault c = absurd c
-refusal-status Foreign [] numbers fault c = absurd c
-refusal-status Foreign (m ∷ []) numbers fault c = absurd c
-refusal-status Foreign (m ∷ d ∷ []) numbers fault c = absurd c
-refusal-status Foreign (m ∷ d ∷ s ∷ []) Empty fault c = absurd c
-refusal-status Foreign (m ∷ d ∷ s ∷ []) (One turns) fault c =
-    no_replay-status (foreign_source m d) s turns fault (undeclared-other m d fault) c
-refusal-status Foreign (m ∷ d ∷ s ∷ []) (Two turns second) fault c = absurd c
-refusal-status Foreign (m ∷ d ∷ s ∷ x ∷ more) numbers fault c = absurd c
-refusal-status ForeignHistory [] numbers fault c = absurd c
-refusal-status ForeignHistory (m ∷ []) numbers fault c = absurd c
-refusal-status ForeignHistory (m ∷ d ∷ []) numbers fault c = absurd c
-refusal-status ForeignHistory (m ∷ d ∷ s ∷ []) Empty fault c = absurd c
-refusal-status ForeignHistory (m ∷ d ∷ s ∷ []) (One turns) fault c =
-    no_history-status (foreign_source m d) s turns fault (undeclared-other m d fault) c
-refusal-status ForeignHistory (m ∷ d ∷ s ∷ []) (Two turns second) fault c = absurd c
-refusal-status ForeignHistory (m ∷ d ∷ s ∷ x ∷ more) numbers fault c = absurd c
-refusal-status Pair [] numbers fault c = absurd c
-refusal-status Pair (l ∷ []) numbers fault c = absurd c
-refusal-status Pair (l ∷ r ∷ []) numbers fault c = absurd c
-refusal-status Pair (l ∷ r ∷ s ∷ []) Empty fault c = absurd c
-refusal-status Pair (l ∷ r ∷ s ∷ []) (One turns) fault c =
-    no_replay-status (pair_source l r) s turns fault (unlinked-other l r fault) c
-refusal-status Pair (l ∷ r ∷ s ∷ []) (Two turns second) fault c = absurd c
-refusal-status Pair (l ∷ r ∷ s ∷ x ∷ more) numbers fault c = absurd c
-refusal-status PairHistory [] numbers fault c = absurd c
-refusal-status PairHistory (l ∷ []) numbers fault c = absurd c
-refusal-status PairHistory (l ∷ r ∷ []) numbers fault c = absurd c
-refusal-status PairHistory (l ∷ r ∷ s ∷ []) Empty fault c = absurd c
-refusal-status PairHistory (l ∷ r ∷ s ∷ []) (One turns) fault c =
-    no_history-status (pair_source l r) s turns fault (unlinked-other l r fault) c
-refusal-status PairHistory (l ∷ r ∷ s ∷ []) (Two turns second) fault c = absurd c
-refusal-status PairHistory (l ∷ r ∷ s ∷ x ∷ more) numbers fault c = absurd c
-refusal-status From [] numbers fault c = absurd c
-refusal-status From (m ∷ []) numbers fault c = absurd c
-refusal-status From (m ∷ s ∷ []) Empty fault c = absurd c
-refusal-status From (m ∷ s ∷ []) (One turns) fault c = absurd c
-refusal-status From (m ∷ s ∷ []) (Two turns number) fault c = rest-status m s turns number fault c
-refusal-status From (m ∷ s ∷ t ∷ more) numbers fault c = absurd c
+pub refusal-status : (job : Job (List ℕ)) (fault : Fault) → IsRefusal job fault → IsOther (status_of fault)
+refusal-status (Make m s turns) fault c = make-status m s turns fault c
+refusal-status (Instrument m) fault c = hooked-status m fault c
+refusal-status (Record hooked s turns) fault c = record-status hooked s turns fault c
+refusal-status (Reduce log) fault c = reduce-status log fault c
+refusal-status (Build m s tape) fault c = build-status m s tape fault c
+refusal-status (History m s turns) fault c = history-status m s turns fault c
+refusal-status (Replay binary turns) fault c = replay-status binary turns fault c
+refusal-status (Show trace) fault c = show-status trace fault c
+refusal-status (Load calls) fault c = make-status LOAD_MODULE (load_script calls) LOAD_TURNS fault c
+refusal-status (Foreign m decls s turns) fault c =
+    no_replay-status (foreign_source m decls) s turns fault (undeclared-other m decls fault) c
+refusal-status (ForeignHistory m decls s turns) fault c =
+    no_history-status (foreign_source m decls) s turns fault (undeclared-other m decls fault) c
+refusal-status (Pair left right s turns) fault c =
+    no_replay-status (pair_source left right) s turns fault (unlinked-other left right fault) c
+refusal-status (PairHistory left right s turns) fault c =
+    no_history-status (pair_source left right) s turns fault (unlinked-other left right fault) c
+refusal-status (From m s turns call) fault c = rest-status m s turns call fault c

@@ -1,12 +1,9 @@
 -- The exit of a `?`, and outcomes by cases.
-use Rattle.std.proofs.Common.{◌≡◌, List, ℕ, refl, sym, ◌∙◌, ap, subst, inl, inr, Option, Result, Ok, Err, OnOk, OnErr, IfErr}
+use Rattle.std.proofs.Common.{◌≡◌, List, ℕ, sym, subst, inl, inr, Option, Result, Ok, Err, OnOk, OnErr, IfErr}
 use Rattle.std.specs.Result.{IsErrAnd}
 use Rattle.r3_outside.specs.Count.{Rose}
 use Rattle.r3_outside.specs.Growth.{Grew, GrewByPrefix}
-use Rattle.r3_faults.specs.Answers.{IsExactValue}
 use Rattle.r3_faults.specs.Lines.{IsReported}
-use Rattle.r3_faults.specs.declared.faults.Fault.{Fault}
-use Rattle.r3_faults.specs.declared.faults.Fault.TheVariants.{Memory}
 
 -- a property of an error that is passed on
 pub IfErr-from : {T E : Type 0} (r : Result T E) (e : E) (P : E → Type 0) → IsErrAnd r (λ y. y ≡ e) → P e → IfErr r P
@@ -24,23 +21,3 @@ pub IsReported-from : {E : Type 0} (r : Result (Unit {0}) E) (before now : Optio
     → IsReported before now faults_before faults_now line
 IsReported-from (Ok x) before now fb fn line whole prefix rose = inl whole
 IsReported-from (Err e) before now fb fn line whole prefix rose = inr (prefix, rose)
-
--- a call without memory is exact
-pub no_memory : {V : Type 0} (IsValue : V → Type 0) (Refusal : Fault → Type 0) → IsExactValue IsValue Refusal (Err Memory)
-no_memory IsValue Refusal =
-    record { taken = tt; cause = inl refl; refused = λ fault refusal. inr refl; accepted = λ value is. inr refl }
-
-pub memory_answer : {V : Type 0} (IsValue : V → Type 0) (Refusal : Fault → Type 0) (r : Result V Fault)
-    → IsErrAnd r (λ fault. fault ≡ Memory) → IsExactValue IsValue Refusal r
-memory_answer IsValue Refusal (Ok v) memory = absurd memory
-memory_answer {V} IsValue Refusal (Err fault) memory =
-    subst (λ fault. IsExactValue IsValue Refusal (Err fault)) (sym memory) (no_memory IsValue Refusal)
-
--- the answer of a call that has one value and no refusal
-pub value_answer : {V : Type 0} (meant v : V) → v ≡ meant → IsExactValue (λ v. v ≡ meant) (λ fault. ⊥) (Ok v)
-value_answer meant v is = record {
-  taken = is;
-  cause = tt;
-  refused = λ fault refusal. absurd refusal;
-  accepted = λ other same. inl (ap Ok (is ∙ sym same));
-}

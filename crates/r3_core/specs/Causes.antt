@@ -1,35 +1,15 @@
 -- Why a call ends with a fault, and what it prints if it ends without one.
-use Rattle.std.specs.Prelude.{◌≡◌, ℕ, ◌+◌, ◌≤◌, nat_lt, List, [], ◌∷◌, length, map, find, zip, Contains, Option, Some, Vec}
+use Rattle.std.specs.Prelude.{◌≡◌, ◌⊎◌, ℕ, ◌+◌, ◌≤◌, nat_lt, List, [], ◌∷◌, length, map, find, Contains, Option, Some, None, Vec, Result, IfOk, IfErr, OnOk}
 use Rattle.std.specs.Option.{ForSome}
-use Rattle.r3_outside.specs.Count.{Rose, Took}
+use Rattle.r3_outside.specs.Count.{NoneFell, Rose, Took}
 use Rattle.r3_outside.specs.Contents.{FileMap, file_bytes}
 use Rattle.r3_faults.specs.declared.faults.Fault.{Fault}
 use Rattle.r3_faults.specs.declared.faults.Fault.TheVariants.{Usage, Read, TooLong, Write, Memory}
-use Rattle.r3_make.specs.Refusals.{AreReplayable, IsMakeRefusal}
-use Rattle.r3_make.specs.Printed.{IsPrinted}
-use Rattle.r3_instrument.specs.InstrumentedBytes.{IsHookedOf, IsHookedRefusal}
-use Rattle.r3_make.specs.LogFiles.{IsLogFile, IsLogRefusal}
-use Rattle.r3_reduce.specs.TapeFiles.{IsReduced, IsReduceRefusal}
-use Rattle.r3_make.specs.BuildRefusals.{IsBuildRefusal}
-use Rattle.r3_make.specs.BuiltReplays as built
-use Rattle.r3_history.specs.Histories.{IsHistory, IsHistoryRefusal}
-use Rattle.r3_core.specs.ForeignHistories.{IsForeignHistory, IsForeignHistoryRefusal}
-use Rattle.r3_core.specs.ForeignReplays.{AreForeignReplayable, IsForeignPrinted, IsForeignRefusal}
-use Rattle.r3_core.specs.PairHistories.{IsPairHistory, IsPairHistoryRefusal}
-use Rattle.r3_core.specs.PairReplays.{ArePairReplayable, IsPairPrinted, IsPairRefusal}
-use Rattle.r3_replay.specs.ReplayTexts.{IsReplayText, IsReplayRefusal}
-use Rattle.r3_show.specs.FileLines.{IsShown, IsShowRefusal}
-use Rattle.load_maker.specs.Loads.{load_script}
-use Rattle.load_maker.specs.declared.load_module.TheConstants.{LOAD_MODULE}
-use Rattle.wasm_syntax.specs.declared.limits.TheConstants.{LOAD_TURNS}
-use Rattle.r3_make.specs.Summaries.{IsSummary}
-use Rattle.r3_core.specs.declared.words.Command.{Command}
-use Rattle.r3_core.specs.declared.words.Command.TheVariants.{Make, Instrument, Record, Reduce, Build, History, Replay, Show, Load, Foreign, ForeignHistory, Pair, PairHistory, From}
-use Rattle.r3_make.specs.RestRefusals.{HaveRest, IsRestRefusal}
-use Rattle.r3_make.specs.RestReplays.{IsRestPrinted}
-use Rattle.r3_core.specs.declared.words.Numbers.{Numbers}
-use Rattle.r3_core.specs.declared.words.Numbers.TheVariants.{Empty, One, Two}
-use Rattle.r3_core.specs.Words.{form, IsListed, Says, files_of}
+use Rattle.r3_core.specs.declared.jobs.Job.{Job}
+use Rattle.r3_core.specs.Jobs.{files_of, map_files, without_files}
+use Rattle.r3_core.specs.Words.{IsListed, Says}
+use Rattle.r3_core.specs.Meanings.{IsRefusal, Prints}
+use Rattle.r3_core.specs.Replayed.{IsReplayed}
 
 -- ---- the files of a call
 
@@ -64,132 +44,81 @@ IsLoadCause reading files (TooLong name limit) =
     × ForSome reading.contents (λ known. first_longer known files ≡ Some (name, limit))
 IsLoadCause reading files fault = ⊥
 
--- the bytes of the files of these names, if the contents of files are known
-abbrev pub AreBytesOf : Option FileMap → (names loaded : List (List ℕ)) → Type 0
-AreBytesOf contents names loaded = ForSome contents (λ known. loaded ≡ map (file_bytes known) names)
+-- a call that loads these files in sequence has its cause: if it gives a value, the value is as it should be, no read
+-- failed and no file is too long; otherwise one of the files was not loaded, or memory is out
+pub record IsLoading {V : Type 0} (reading : Reading) (files : List (List ℕ × ℕ)) (IsValue : V → Type 0)
+    (result : Result V Fault) : Type 0 where
+  pub faults_never_fall : NoneFell reading.faults_before reading.faults_now
+  pub taken_never_falls : NoneFell reading.taken_before reading.taken_now
+  pub value : IfOk result IsValue
+  pub failed_none : OnOk result ((name : List ℕ) → reading.faults_now name ≡ reading.faults_before name)
+  pub within_limits : OnOk result (ForSome reading.contents (λ known. first_longer known files ≡ None))
+  pub cause : IfErr result (λ fault. (fault ≡ Memory) ⊎ IsLoadCause reading files fault)
 
--- the bytes of each list
-abbrev pub all_bytes : {Z : Type 0} → List (Vec ℕ Z) → List (List ℕ)
-all_bytes lists = map (λ bytes. bytes.items) lists
+-- the bytes of a file with its limit: they are within the limit, and are those of the file, if the contents of files are
+-- known
+pub record IsFile (contents : Option FileMap) (file : List ℕ × ℕ) (bytes : List ℕ) : Type 0 where
+  pub contained : ForSome contents (λ known. bytes ≡ file_bytes known file.0)
+  pub short : length bytes ≤ file.1
 
--- lists of bytes, each within its limit
-abbrev pub AreWithin : (lists : List (List ℕ)) → (limits : List ℕ) → Type 0
-AreWithin [] limits = Unit {0}
-AreWithin (bytes ∷ lists) [] = ⊥
-AreWithin (bytes ∷ lists) (limit ∷ limits) = (length bytes ≤ limit) × AreWithin lists limits
+-- ---- the files of a job, and their bytes
 
--- ---- commands over the bytes of their files
+-- the job with the bytes that its files contain
+abbrev pub loaded : FileMap → Job (List ℕ) → Job (List ℕ)
+loaded known job = map_files (file_bytes known) job
 
--- a command refuses the bytes of its files
-abbrev pub IsRefusal : Command → (loaded : List (List ℕ)) → (numbers : Numbers) → Fault → Type 0
-IsRefusal Make (module_bytes ∷ script_bytes ∷ []) (One turns) fault =
-    IsMakeRefusal module_bytes script_bytes turns fault
-IsRefusal Instrument (module_bytes ∷ []) Empty fault = IsHookedRefusal module_bytes fault
-IsRefusal Record (hooked_bytes ∷ script_bytes ∷ []) (One turns) fault =
-    IsLogRefusal hooked_bytes script_bytes turns fault
-IsRefusal Reduce (log ∷ []) Empty fault = IsReduceRefusal log fault
-IsRefusal Build (module_bytes ∷ script_bytes ∷ tape_bytes ∷ []) Empty fault =
-    IsBuildRefusal module_bytes script_bytes tape_bytes fault
-IsRefusal History (module_bytes ∷ script_bytes ∷ []) (One turns) fault =
-    IsHistoryRefusal module_bytes script_bytes turns fault
-IsRefusal Replay (binary ∷ []) (One turns) fault = IsReplayRefusal binary turns fault
-IsRefusal Show (trace ∷ []) Empty fault = IsShowRefusal trace fault
-IsRefusal Load [] (One number) fault = IsMakeRefusal LOAD_MODULE (load_script number) LOAD_TURNS fault
-IsRefusal Foreign (module_bytes ∷ decl_bytes ∷ script_bytes ∷ []) (One turns) fault =
-    IsForeignRefusal module_bytes decl_bytes script_bytes turns fault
-IsRefusal ForeignHistory (module_bytes ∷ decl_bytes ∷ script_bytes ∷ []) (One turns) fault =
-    IsForeignHistoryRefusal module_bytes decl_bytes script_bytes turns fault
-IsRefusal Pair (left_bytes ∷ right_bytes ∷ script_bytes ∷ []) (One turns) fault =
-    IsPairRefusal left_bytes right_bytes script_bytes turns fault
-IsRefusal PairHistory (left_bytes ∷ right_bytes ∷ script_bytes ∷ []) (One turns) fault =
-    IsPairHistoryRefusal left_bytes right_bytes script_bytes turns fault
-IsRefusal From (module_bytes ∷ script_bytes ∷ []) (Two turns number) fault =
-    IsRestRefusal module_bytes script_bytes turns number fault
-IsRefusal command loaded numbers fault = ⊥
+-- the job with the bytes of its files
+abbrev pub bytes_of : {Z : Type 0} → Job (Vec ℕ Z) → Job (List ℕ)
+bytes_of job = map_files (λ bytes. bytes.items) job
 
--- a command can do its job for the bytes of its files
-abbrev pub IsDoable : Command → (loaded : List (List ℕ)) → (numbers : Numbers) → Type 0
-IsDoable Make (module_bytes ∷ script_bytes ∷ []) (One turns) = AreReplayable module_bytes script_bytes turns
-IsDoable Instrument (module_bytes ∷ []) Empty = (hooked : List ℕ) × IsHookedOf module_bytes hooked
-IsDoable Record (hooked_bytes ∷ script_bytes ∷ []) (One turns) =
-    (file : List ℕ) × IsLogFile hooked_bytes script_bytes turns file
-IsDoable Reduce (log ∷ []) Empty = (file : List ℕ) × IsReduced log file
-IsDoable Build (module_bytes ∷ script_bytes ∷ tape_bytes ∷ []) Empty =
-    (bytes : List ℕ) × built.IsPrinted module_bytes script_bytes tape_bytes bytes
-IsDoable History (module_bytes ∷ script_bytes ∷ []) (One turns) =
-    (text : List ℕ) × IsHistory module_bytes script_bytes turns text
-IsDoable Replay (binary ∷ []) (One turns) = (text : List ℕ) × IsReplayText binary turns text
-IsDoable Show (trace ∷ []) Empty = (text : List ℕ) × IsShown trace text
-IsDoable Load [] (One number) = AreReplayable LOAD_MODULE (load_script number) LOAD_TURNS
-IsDoable Foreign (module_bytes ∷ decl_bytes ∷ script_bytes ∷ []) (One turns) =
-    AreForeignReplayable module_bytes decl_bytes script_bytes turns
-IsDoable ForeignHistory (module_bytes ∷ decl_bytes ∷ script_bytes ∷ []) (One turns) =
-    (text : List ℕ) × IsForeignHistory module_bytes decl_bytes script_bytes turns text
-IsDoable Pair (left_bytes ∷ right_bytes ∷ script_bytes ∷ []) (One turns) =
-    ArePairReplayable left_bytes right_bytes script_bytes turns
-IsDoable PairHistory (left_bytes ∷ right_bytes ∷ script_bytes ∷ []) (One turns) =
-    (text : List ℕ) × IsPairHistory left_bytes right_bytes script_bytes turns text
-IsDoable From (module_bytes ∷ script_bytes ∷ []) (Two turns number) = HaveRest module_bytes script_bytes turns number
-IsDoable command loaded numbers = ⊥
+-- the job with the bytes of its files: the same command with the same numbers, and the bytes that the files contain, if
+-- the contents of files are known
+pub record AreBytesOf (contents : Option FileMap) (job given : Job (List ℕ)) : Type 0 where
+  pub same : without_files given ≡ without_files job
+  pub contained : ForSome contents (λ known. given ≡ loaded known job)
 
--- a command prints these bytes for the bytes of its files
-abbrev pub Prints : Command → (loaded : List (List ℕ)) → (numbers : Numbers) → (printed : List ℕ) → Type 0
-Prints Make (module_bytes ∷ script_bytes ∷ []) (One turns) printed =
-    IsPrinted module_bytes script_bytes turns printed
-Prints Instrument (module_bytes ∷ []) Empty printed = IsHookedOf module_bytes printed
-Prints Record (hooked_bytes ∷ script_bytes ∷ []) (One turns) printed =
-    IsLogFile hooked_bytes script_bytes turns printed
-Prints Reduce (log ∷ []) Empty printed = IsReduced log printed
-Prints Build (module_bytes ∷ script_bytes ∷ tape_bytes ∷ []) Empty printed =
-    built.IsPrinted module_bytes script_bytes tape_bytes printed
-Prints History (module_bytes ∷ script_bytes ∷ []) (One turns) printed =
-    IsHistory module_bytes script_bytes turns printed
-Prints Replay (binary ∷ []) (One turns) printed = IsReplayText binary turns printed
-Prints Show (trace ∷ []) Empty printed = IsShown trace printed
-Prints Load [] (One number) printed = IsSummary number printed
-Prints Foreign (module_bytes ∷ decl_bytes ∷ script_bytes ∷ []) (One turns) printed =
-    IsForeignPrinted module_bytes decl_bytes script_bytes turns printed
-Prints ForeignHistory (module_bytes ∷ decl_bytes ∷ script_bytes ∷ []) (One turns) printed =
-    IsForeignHistory module_bytes decl_bytes script_bytes turns printed
-Prints Pair (left_bytes ∷ right_bytes ∷ script_bytes ∷ []) (One turns) printed =
-    IsPairPrinted left_bytes right_bytes script_bytes turns printed
-Prints PairHistory (left_bytes ∷ right_bytes ∷ script_bytes ∷ []) (One turns) printed =
-    IsPairHistory left_bytes right_bytes script_bytes turns printed
-Prints From (module_bytes ∷ script_bytes ∷ []) (Two turns number) printed =
-    IsRestPrinted module_bytes script_bytes turns number printed
-Prints command loaded numbers printed = ⊥
+-- the bytes of each file are within its limit
+abbrev pub AreWithin : List (List ℕ × ℕ) → Type 0
+AreWithin [] = Unit {0}
+AreWithin (file ∷ files) = (length file.0 ≤ file.1) × AreWithin files
+
+-- a job with the bytes of its files, each within its limit
+pub record IsLoaded (contents : Option FileMap) (job given : Job (List ℕ)) : Type 0 where
+  pub bytes : AreBytesOf contents job given
+  pub within : AreWithin (files_of given)
 
 -- ---- calls
 
--- what a call's words say, and the bytes of its files
-pub record IsCall (words : List (List ℕ)) (contents : Option FileMap) (command : Command) (loaded : List (List ℕ))
-    (numbers : Numbers) : Type 0 where
-  pub names : List (List ℕ)
-  pub says : Says words command names numbers
-  pub bytes : AreBytesOf contents names loaded
+-- the words say a job without files
+abbrev pub NamesNoFile : (words : List (List ℕ)) → Type 0
+NamesNoFile words = (job : Job (List ℕ)) × Says words job × (files_of job ≡ [])
 
--- the command of the words refuses the bytes of its files
+-- the words say a job, and this is the job with the bytes of its files
+pub record IsCall (words : List (List ℕ)) (contents : Option FileMap) (given : Job (List ℕ)) : Type 0 where
+  pub job : Job (List ℕ)
+  pub says : Says words job
+  pub bytes : AreBytesOf contents job given
+
+-- the job of the words is refused for the bytes of its files
 pub record IsRefused (words : List (List ℕ)) (contents : Option FileMap) (fault : Fault) : Type 0 where
-  pub command : Command
-  pub loaded : List (List ℕ)
-  pub numbers : Numbers
-  pub call : IsCall words contents command loaded numbers
-  pub refusal : IsRefusal command loaded numbers fault
+  pub given : Job (List ℕ)
+  pub call : IsCall words contents given
+  pub refusal : IsRefusal given fault
 
--- the command of the words prints these bytes for the bytes of its files
+-- the job of the words prints these bytes for the bytes of its files; and of what `make`, `foreign` and `pair` print,
+-- `replay` prints what `history`, `foreign-history` and `pair-history` print for the same files
 pub record IsPrintedFor (words : List (List ℕ)) (contents : Option FileMap) (printed : List ℕ) : Type 0 where
-  pub command : Command
-  pub loaded : List (List ℕ)
-  pub numbers : Numbers
-  pub call : IsCall words contents command loaded numbers
-  pub prints : Prints command loaded numbers printed
+  pub given : Job (List ℕ)
+  pub call : IsCall words contents given
+  pub prints : Prints given printed
+  pub replayed : IsReplayed given printed
 
 -- why a call with these words ends with this fault
 pub data IsCause (words : List (List ℕ)) (reading : Reading) (writes_before writes_now : ℕ) (fault : Fault)
     : Type 0 where
   Unlisted : (is_usage : fault ≡ Usage) (unlisted : ¬ (IsListed words))
       → IsCause words reading writes_before writes_now fault
-  Unloaded : (listed : IsListed words) (cause : IsLoadCause reading (files_of words) fault)
+  Unloaded : (job : Job (List ℕ)) (says : Says words job) (cause : IsLoadCause reading (files_of job) fault)
       → IsCause words reading writes_before writes_now fault
   Refused : (refused : IsRefused words reading.contents fault) → IsCause words reading writes_before writes_now fault
   Unwritten : (is_write : fault ≡ Write) (listed : IsListed words) (rose : Rose writes_before writes_now)
@@ -197,11 +126,9 @@ pub data IsCause (words : List (List ℕ)) (reading : Reading) (writes_before wr
   OutOfMemory : (is_memory : fault ≡ Memory) (listed : IsListed words)
       → IsCause words reading writes_before writes_now fault
 
--- why a command over files prints nothing
-pub data IsPrintCause (reading : Reading) (command : Command) (names : List (List ℕ)) (numbers : Numbers)
-    (fault : Fault) : Type 0 where
-  UnloadedFile : (cause : IsLoadCause reading (zip names (form command).limits) fault)
-      → IsPrintCause reading command names numbers fault
-  RefusedBytes : (loaded : List (List ℕ)) (bytes : AreBytesOf reading.contents names loaded)
-      (refusal : IsRefusal command loaded numbers fault) → IsPrintCause reading command names numbers fault
-  NoMemoryLeft : (is_memory : fault ≡ Memory) → IsPrintCause reading command names numbers fault
+-- why a job prints nothing
+pub data IsPrintCause (reading : Reading) (job : Job (List ℕ)) (fault : Fault) : Type 0 where
+  UnloadedFile : (cause : IsLoadCause reading (files_of job) fault) → IsPrintCause reading job fault
+  RefusedBytes : (given : Job (List ℕ)) (bytes : AreBytesOf reading.contents job given)
+      (refusal : IsRefusal given fault) → IsPrintCause reading job fault
+  NoMemoryLeft : (is_memory : fault ≡ Memory) → IsPrintCause reading job fault

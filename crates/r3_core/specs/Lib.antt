@@ -1,13 +1,5 @@
+pub mod Jobs
 pub mod Words
-pub mod WorldRuns
-pub mod WorldReplays
-pub mod Sources
-pub mod ForeignInputs
-pub mod ForeignReplays
-pub mod ForeignHistories
-pub mod PairInputs
-pub mod PairReplays
-pub mod PairHistories
+pub mod Meanings
+pub mod Replayed
 pub mod Causes
-pub mod RecordedModules
-pub mod ReplayAnswers

@@ -1,47 +1,43 @@
 //! The commands of r3 and the call that runs them.
 #![tactic(auto)]
 
-ghost use Rattle.std.specs.Prelude.{◌≡◌, ◌≢◌, ℕ, ◌+◌, ◌≤◌, ◌⊎◌, ◌↔◌, true, false, List, [], ◌∷◌, length, map, zip, Contains, Option, Some, None, IsSome, OnOk, IfOk, IfErr, IsErrAnd, Err};
+ghost use Rattle.std.specs.Prelude.{◌≡◌, ◌≢◌, ℕ, ◌+◌, ◌≤◌, ◌⊎◌, ◌↔◌, List, [], ◌∷◌, map, Contains, Option, Some, None, IsSome, OnOk, IfOk, IfErr, IsErrAnd, Err};
 ghost use Rattle.std.specs.Option.{ForSome};
-ghost use Rattle.r3_outside.specs.Contents.{file_bytes};
 ghost use Rattle.r3_outside.specs.Count.{Rose, Took};
 ghost use Rattle.r3_outside.specs.Growth.{Grew, GrewByPrefix};
 ghost use Rattle.r3_faults.specs.Lines.{status_of, line_of, IsReported};
 ghost use Rattle.r3_faults.specs.declared.faults.Fault.{Fault};
-ghost use Rattle.r3_faults.specs.declared.faults.Fault.TheVariants.{Memory, Write as WriteFault};
-ghost use Rattle.r3_core.specs.declared.words.Command.{Command};
-ghost use Rattle.r3_core.specs.declared.words.Numbers.{Numbers};
-ghost use Rattle.r3_core.specs.Words.{form, texts, files_of, IsListed, Says};
-ghost use Rattle.r3_core.specs.Causes.{reading_of, first_longer, AreBytesOf, Prints, IsRefusal, IsDoable, IsPrintedFor, IsPrintCause, IsCause, AreWithin, all_bytes};
+ghost use Rattle.r3_faults.specs.declared.faults.Fault.TheVariants.{Write as WriteFault};
+ghost use Rattle.r3_core.specs.declared.jobs.Job.{Job};
+ghost use Rattle.r3_core.specs.Jobs.{files_of, form};
+ghost use Rattle.r3_core.specs.Words.{named, texts, AreInRange, IsListed, Says};
+ghost use Rattle.r3_core.specs.Meanings.{IsDoable, IsRefusal, Prints};
+ghost use Rattle.r3_core.specs.Replayed.{IsReplayed};
+ghost use Rattle.r3_core.specs.Causes.{first_longer, loaded, reading_of, AreBytesOf, IsCause, IsPrintCause, IsPrintedFor, NamesNoFile};
 
-use command_files::load_files;
-use output::output_of_command;
+use command_files::load_job;
+use jobs::Job;
+use output::output_of;
 use r3_outside::{Files, Sink, put_all};
+use replay_text_laws::{
+    foreign_replays_print_histories, pair_replays_print_histories, replays_print_histories,
+};
 use std::alloc::Global;
-use words::{Call, call_of};
+use words::job_of;
 
 mod command_files;
-mod declared_modules;
-mod file_modules;
-mod foreign_command;
-mod foreign_histories;
-mod foreign_inputs;
+mod jobs;
 mod output;
-mod pair_command;
-mod pair_histories;
-mod pair_inputs;
-mod run_inputs;
 mod sure;
 mod words;
 
-pub use foreign_command::foreign;
-pub use foreign_histories::foreign_history;
-pub use pair_command::pair;
-pub use pair_histories::pair_history;
+pub use r3_build::build;
 pub use r3_faults::Fault;
 pub use r3_history::history;
+pub use r3_instances::{foreign, foreign_history, pair, pair_history};
 pub use r3_instrument::instrument_bytes;
-pub use r3_make::{build, from_call, load_summary, log_run, make};
+pub use r3_make::{from_call, load_summary, make};
+pub use r3_record::log_run;
 pub use r3_reduce::reduce_log;
 pub use r3_replay::replay_text;
 pub use r3_show::show;
@@ -61,36 +57,35 @@ pub fn r3<F: Files, O: Sink, E: Sink>(
     // The words are not a listed call. No file is read then, nor if the words name no file.
     ensures usage { (result ≡ 2) ↔ (¬ (IsListed (texts words.now))) }
     ensures listed { result ≢ 2 → IsListed (texts words.now) }
-    ensures unread { (result ≡ 2) ⊎ (files_of (texts words.now) ≡ []) → files.new ≡ files.old }
+    ensures unread { (result ≡ 2) ⊎ NamesNoFile (texts words.now) → files.new ≡ files.old }
 
-    // A file was not loaded: it is named by the words; a file that is too long is the first such one.
+    // A file was not loaded: it is one of the job that the words say; a file that is too long is the first such one.
     ensures contents_unchanged { F.contents files.new ≡ F.contents files.old }
-    ensures read { result ≡ 3 → (name : List ℕ)
-        × Contains (map (λ file. file.0) (files_of (texts words.now))) name
-        × Rose (F.faults files.old name) (F.faults files.new name) }
-    ensures too_long { result ≡ 4 → (file : List ℕ × ℕ) × Contains (files_of (texts words.now)) file
+    ensures read { result ≡ 3 → (job : Job (List ℕ)) × Says (texts words.now) job
+        × ((name : List ℕ) × Contains (map (λ file. file.0) (files_of job)) name
+        × Rose (F.faults files.old name) (F.faults files.new name)) }
+    ensures too_long { result ≡ 4 → (job : Job (List ℕ)) × Says (texts words.now) job
+        × ((file : List ℕ × ℕ) × Contains (files_of job) file
         × Took (F.taken files.old file.0) (F.taken files.new file.0) (file.1 + 1)
-        × ForSome (F.contents files.old)
-        (λ known. first_longer known (files_of (texts words.now)) ≡ Some file) }
-    ensures longer { IsListed (texts words.now) → ForSome (F.contents files.old)
-        (λ known. IsSome (first_longer known (files_of (texts words.now)))
+        × ForSome (F.contents files.old) (λ known. first_longer known (files_of job) ≡ Some file)) }
+    ensures longer { (job : Job (List ℕ)) → Says (texts words.now) job → ForSome (F.contents files.old)
+        (λ known. IsSome (first_longer known (files_of job))
         → Contains (3 ∷ 4 ∷ 14 ∷ []) result) }
 
     // The bytes of the files are refused, by the first cause that applies.
-    ensures refused { (command : Command) (names : List (List ℕ)) (numbers : Numbers) (fault : Fault)
-        → Says (texts words.now) command names numbers
-        → ForSome (F.contents files.old) (λ known. first_longer known (files_of (texts words.now)) ≡ None
-        → IsRefusal command (map (file_bytes known) names) numbers fault
+    ensures refused { (job : Job (List ℕ)) (fault : Fault) → Says (texts words.now) job
+        → ForSome (F.contents files.old) (λ known. first_longer known (files_of job) ≡ None
+        → IsRefusal (loaded known job) fault
         → Contains (status_of fault ∷ 3 ∷ 14 ∷ []) result) }
 
     // The job can be done for the bytes of the files.
-    ensures done { (command : Command) (names : List (List ℕ)) (numbers : Numbers)
-        → Says (texts words.now) command names numbers
-        → ForSome (F.contents files.old) (λ known. first_longer known (files_of (texts words.now)) ≡ None
-        → IsDoable command (map (file_bytes known) names) numbers
+    ensures done { (job : Job (List ℕ)) → Says (texts words.now) job
+        → ForSome (F.contents files.old) (λ known. first_longer known (files_of job) ≡ None
+        → IsDoable (loaded known job)
         → Contains (0 ∷ 3 ∷ 13 ∷ 14 ∷ []) result) }
 
-    // With status 0 no count of faults has risen, and this is printed.
+    // With status 0 no count of faults has risen, and this is printed: what the job prints; and of what `make`,
+    // `foreign` and `pair` print, `replay` prints what the run's history is.
     ensures no_failed_read { result ≡ 0 → (name : List ℕ) → F.faults files.new name ≡ F.faults files.old name }
     ensures no_failed_write { result ≡ 0 → O.faults out.new ≡ O.faults out.old }
     ensures printed { result ≡ 0 → (bytes : List ℕ)
@@ -131,19 +126,17 @@ fn run<F: Files, O: Sink>(
     ensures contents_unchanged { F.contents files.new ≡ F.contents files.old }
     ensures listed { OnOk result (IsListed (texts words.now)) }
     ensures unlisted { result ≡ Err Fault.Usage → files.new ≡ files.old }
-    ensures unread { files_of (texts words.now) ≡ [] → files.new ≡ files.old }
-    ensures longer { IsListed (texts words.now) → ForSome (F.contents files.old)
-        (λ known. IsSome (first_longer known (files_of (texts words.now)))
+    ensures unread { NamesNoFile (texts words.now) → files.new ≡ files.old }
+    ensures longer { (job : Job (List ℕ)) → Says (texts words.now) job → ForSome (F.contents files.old)
+        (λ known. IsSome (first_longer known (files_of job))
         → IsErrAnd result (λ fault. Contains (3 ∷ 4 ∷ 14 ∷ []) (status_of fault))) }
-    ensures refused { (command : Command) (names : List (List ℕ)) (numbers : Numbers) (fault : Fault)
-        → Says (texts words.now) command names numbers
-        → ForSome (F.contents files.old) (λ known. first_longer known (files_of (texts words.now)) ≡ None
-        → IsRefusal command (map (file_bytes known) names) numbers fault
+    ensures refused { (job : Job (List ℕ)) (fault : Fault) → Says (texts words.now) job
+        → ForSome (F.contents files.old) (λ known. first_longer known (files_of job) ≡ None
+        → IsRefusal (loaded known job) fault
         → IsErrAnd result (λ other. Contains (status_of fault ∷ 3 ∷ 14 ∷ []) (status_of other))) }
-    ensures done { (command : Command) (names : List (List ℕ)) (numbers : Numbers)
-        → Says (texts words.now) command names numbers
-        → ForSome (F.contents files.old) (λ known. first_longer known (files_of (texts words.now)) ≡ None
-        → IsDoable command (map (file_bytes known) names) numbers
+    ensures done { (job : Job (List ℕ)) → Says (texts words.now) job
+        → ForSome (F.contents files.old) (λ known. first_longer known (files_of job) ≡ None
+        → IsDoable (loaded known job)
         → IfErr result (λ other. Contains (3 ∷ 13 ∷ 14 ∷ []) (status_of other))) }
     ensures no_failed_read { OnOk result ((name : List ℕ) → F.faults files.new name ≡ F.faults files.old name) }
     ensures no_failed_write { OnOk result (O.faults out.new ≡ O.faults out.old) }
@@ -159,38 +152,45 @@ fn run<F: Files, O: Sink>(
         (F.faults files.old) (F.faults files.new) (F.taken files.old) (F.taken files.new))
         (O.faults out.old) (O.faults out.new) fault) }
 {
-    let call = call_of(words)?;
-    let printed = output_of_call(alloc, &call, files)?;
+    let job = job_of(words)?;
+    let printed = output_of_job(alloc, job, files)?;
     put_all(out, &printed)?;
     Ok(())
 }
 
-/// The bytes that a command prints.
-fn output_of_call<F: Files>(alloc: Global, call: &Call<'_>, files: &mut F) -> Result<Vec<u8>, Fault>
-    requires { (words : List (List ℕ)) × Says words call.now.command (texts call.now.names.now) call.now.numbers }
+/// The bytes that a job prints.
+fn output_of_job<F: Files>(
+    alloc: Global,
+    job: Job<&String>,
+    files: &mut F,
+) -> Result<Vec<u8>, Fault>
+    requires { AreInRange (form (named job)).numbers }
 
     ensures contents_unchanged { F.contents files.new ≡ F.contents files.old }
-    ensures unread { texts call.now.names.now ≡ [] → files.new ≡ files.old }
+    ensures unread { files_of (named job.entry) ≡ [] → files.new ≡ files.old }
     ensures longer { ForSome (F.contents files.old)
-        (λ known. IsSome (first_longer known (zip (texts call.now.names.now) (form call.now.command).limits))
+        (λ known. IsSome (first_longer known (files_of (named job.entry)))
         → IsErrAnd result (λ fault. Contains (3 ∷ 4 ∷ 14 ∷ []) (status_of fault))) }
     ensures refused { (fault : Fault) → ForSome (F.contents files.old)
-        (λ known. first_longer known (zip (texts call.now.names.now) (form call.now.command).limits) ≡ None
-        → IsRefusal call.now.command (map (file_bytes known) (texts call.now.names.now)) call.now.numbers fault
+        (λ known. first_longer known (files_of (named job.entry)) ≡ None
+        → IsRefusal (loaded known (named job.entry)) fault
         → IsErrAnd result (λ other. Contains (status_of fault ∷ 3 ∷ 14 ∷ []) (status_of other))) }
     ensures done { ForSome (F.contents files.old)
-        (λ known. first_longer known (zip (texts call.now.names.now) (form call.now.command).limits) ≡ None
-        → IsDoable call.now.command (map (file_bytes known) (texts call.now.names.now)) call.now.numbers
+        (λ known. first_longer known (files_of (named job.entry)) ≡ None
+        → IsDoable (loaded known (named job.entry))
         → IfErr result (λ other. Contains (3 ∷ 13 ∷ 14 ∷ []) (status_of other))) }
     ensures no_failed_read { OnOk result ((name : List ℕ) → F.faults files.new name ≡ F.faults files.old name) }
-    ensures printed { IfOk result (λ bytes. (loaded : List (List ℕ))
-        × AreBytesOf (F.contents files.old) (texts call.now.names.now) loaded
-        × Prints call.now.command loaded call.now.numbers bytes.items) }
+    ensures printed { IfOk result (λ bytes. (given : Job (List ℕ))
+        × AreBytesOf (F.contents files.old) (named job.entry) given × Prints given bytes.items
+        × IsReplayed given bytes.items) }
     ensures cause { IfErr result (λ fault. IsPrintCause
         (reading_of (F.contents files.old)
         (F.faults files.old) (F.faults files.new) (F.taken files.old) (F.taken files.new))
-        call.now.command (texts call.now.names.now) call.now.numbers fault) }
+        (named job.entry) fault) }
 {
-    let loaded = load_files(alloc, files, call.names, call.command.limits())?;
-    output_of_command(alloc, call.command, &loaded, call.numbers)
+    replays_print_histories();
+    foreign_replays_print_histories();
+    pair_replays_print_histories();
+    let given = load_job(alloc, files, job)?;
+    output_of(alloc, &given)
 }

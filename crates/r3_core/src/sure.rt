@@ -1,15 +1,15 @@
 // The call over files and sinks that never fail.
 
-ghost use Rattle.std.specs.Prelude.{◌≡◌, ◌≢◌, ◌⊎◌, ◌↔◌, ℕ, List, [], map, Option, Some, None, IsSome};
-ghost use Rattle.r3_outside.specs.Contents.{file_bytes};
+ghost use Rattle.std.specs.Prelude.{◌≡◌, ◌≢◌, ◌⊎◌, ◌↔◌, ℕ, List, Option, Some, None, IsSome};
 ghost use Rattle.r3_outside.specs.Growth.{Grew};
 ghost use Rattle.r3_outside.specs.NameCounts.{count_of};
 ghost use Rattle.r3_faults.specs.declared.faults.Fault.{Fault};
 ghost use Rattle.r3_faults.specs.Lines.{line_of, status_of};
-ghost use Rattle.r3_core.specs.declared.words.Numbers.{Numbers};
-ghost use Rattle.r3_core.specs.Words.{texts, files_of, IsListed, Says};
-ghost use Rattle.r3_core.specs.declared.words.Command.{Command};
-ghost use Rattle.r3_core.specs.Causes.{first_longer, reading_of, IsCause, IsDoable, IsPrintedFor, IsRefusal};
+ghost use Rattle.r3_core.specs.declared.jobs.Job.{Job};
+ghost use Rattle.r3_core.specs.Jobs.{files_of};
+ghost use Rattle.r3_core.specs.Words.{texts, IsListed, Says};
+ghost use Rattle.r3_core.specs.Meanings.{IsDoable, IsRefusal};
+ghost use Rattle.r3_core.specs.Causes.{first_longer, loaded, reading_of, IsCause, IsPrintedFor, NamesNoFile};
 
 use crate::r3;
 use r3_outside::{SureFiles, SureSink};
@@ -28,24 +28,22 @@ pub fn r3_in_memory(
     // The words are not a listed call. No file is read then, nor if the words name no file.
     ensures usage { (result ≡ 2) ↔ (¬ (IsListed (texts words.now))) }
     ensures listed { result ≢ 2 → IsListed (texts words.now) }
-    ensures unread { (result ≡ 2) ⊎ (files_of (texts words.now) ≡ []) → files.new ≡ files.old }
+    ensures unread { (result ≡ 2) ⊎ NamesNoFile (texts words.now) → files.new ≡ files.old }
     ensures contents_unchanged { files.new.files ≡ files.old.files }
 
     // The status.
     ensures no_read_fault { result ≢ 3 }
     ensures no_write_fault { result ≢ 13 }
-    ensures longer { IsListed (texts words.now)
-        → IsSome (first_longer files.old.files (files_of (texts words.now)))
+    ensures longer { (job : Job (List ℕ)) → Says (texts words.now) job
+        → IsSome (first_longer files.old.files (files_of job))
         → (result ≡ 4) ⊎ (result ≡ 14) }
-    ensures refused { (command : Command) (names : List (List ℕ)) (numbers : Numbers) (fault : Fault)
-        → Says (texts words.now) command names numbers
-        → first_longer files.old.files (files_of (texts words.now)) ≡ None
-        → IsRefusal command (map (file_bytes files.old.files) names) numbers fault
+    ensures refused { (job : Job (List ℕ)) (fault : Fault) → Says (texts words.now) job
+        → first_longer files.old.files (files_of job) ≡ None
+        → IsRefusal (loaded files.old.files job) fault
         → (result ≡ status_of fault) ⊎ (result ≡ 14) }
-    ensures done { (command : Command) (names : List (List ℕ)) (numbers : Numbers)
-        → Says (texts words.now) command names numbers
-        → first_longer files.old.files (files_of (texts words.now)) ≡ None
-        → IsDoable command (map (file_bytes files.old.files) names) numbers
+    ensures done { (job : Job (List ℕ)) → Says (texts words.now) job
+        → first_longer files.old.files (files_of job) ≡ None
+        → IsDoable (loaded files.old.files job)
         → (result ≡ 0) ⊎ (result ≡ 14) }
 
     // What is printed.

@@ -1,91 +1,13 @@
 // The meaning of a call's words.
 
-ghost use Rattle.std.specs.Prelude.{◌≡◌, ℕ, [], ◌∷◌, IfOk, IfErr};
-ghost use Rattle.r3_core.specs.Words.{form, texts, command_of_name, IsNumber, IsAfterFiles, IsListed, Says};
+ghost use Rattle.std.specs.Prelude.{◌≡◌, ℕ, [], ◌∷◌, IfOk, IfErr, string_bytes};
+ghost use Rattle.r3_core.specs.Words.{named, texts, IsNumber, IsListed, Says};
 
+use crate::jobs::Job;
 use itoa::Buffer;
 use r3_faults::Fault;
 use r3_make::MAX_CALL_NUMBER;
-use wasm_syntax::limits::{
-    MAX_FILE_BYTES, MAX_HISTORY_TURNS, MAX_INSTRUMENTED_BYTES, MAX_LOAD_CALLS, MAX_RECORD_TURNS,
-    MAX_REPLAY_BYTES, MAX_TRACE_BYTES, MAX_TURNS,
-};
-
-/// A command of the program.
-#[derive(Clone, Copy)]
-pub(crate) enum Command {
-    Make,
-    Instrument,
-    Record,
-    Reduce,
-    Build,
-    History,
-    Replay,
-    Show,
-    Load,
-    Foreign,
-    ForeignHistory,
-    Pair,
-    PairHistory,
-    From,
-}
-
-impl Command {
-    /// The command of a name.
-    fn of_name(name: &str) -> Option<Command>
-        ensures { result ≡ command_of_name name.now }
-    {
-        match name {
-            "make" => Some(Command::Make),
-            "instrument" => Some(Command::Instrument),
-            "record" => Some(Command::Record),
-            "reduce" => Some(Command::Reduce),
-            "build" => Some(Command::Build),
-            "history" => Some(Command::History),
-            "replay" => Some(Command::Replay),
-            "show" => Some(Command::Show),
-            "load" => Some(Command::Load),
-            "foreign" => Some(Command::Foreign),
-            "foreign-history" => Some(Command::ForeignHistory),
-            "pair" => Some(Command::Pair),
-            "pair-history" => Some(Command::PairHistory),
-            "from" => Some(Command::From),
-            _ => None,
-        }
-    }
-
-    /// The most bytes of each file that the command names, in sequence.
-    pub(crate) fn limits(self) -> &'static [u64]
-        ensures { result.now ≡ (form self).limits }
-    {
-        match self {
-            Command::Make | Command::History | Command::From => &[MAX_FILE_BYTES, MAX_FILE_BYTES],
-            Command::Instrument => &[MAX_FILE_BYTES],
-            Command::Record => &[MAX_INSTRUMENTED_BYTES, MAX_FILE_BYTES],
-            Command::Reduce | Command::Show => &[MAX_TRACE_BYTES],
-            Command::Build => &[MAX_FILE_BYTES, MAX_FILE_BYTES, MAX_TRACE_BYTES],
-            Command::Replay => &[MAX_REPLAY_BYTES],
-            Command::Load => &[],
-            Command::Foreign | Command::ForeignHistory | Command::Pair | Command::PairHistory => {
-                &[MAX_FILE_BYTES, MAX_FILE_BYTES, MAX_FILE_BYTES]
-            }
-        }
-    }
-
-    /// The range of each number that the command takes after its files, in sequence.
-    fn ranges(self) -> &'static [NumberRange]
-        ensures { result.now ≡ (form self).ranges }
-    {
-        match self {
-            Command::Make | Command::Foreign | Command::Pair => &[TURNS],
-            Command::History | Command::ForeignHistory | Command::PairHistory => &[HISTORY_TURNS],
-            Command::Record | Command::Replay => &[RECORD_TURNS],
-            Command::Load => &[LOAD_CALLS],
-            Command::From => &[TURNS, CALL_NUMBERS],
-            Command::Instrument | Command::Reduce | Command::Build | Command::Show => &[],
-        }
-    }
-}
+use wasm_syntax::limits::{MAX_HISTORY_TURNS, MAX_LOAD_CALLS, MAX_RECORD_TURNS, MAX_TURNS};
 
 /// The numbers that a word may be, from the least one to the greatest.
 #[derive(Clone, Copy)]
@@ -120,95 +42,153 @@ const LOAD_CALLS: NumberRange = NumberRange {
     most: MAX_LOAD_CALLS as u64,
 };
 
-/// The numbers that a call has after its files.
-#[derive(Clone, Copy)]
-pub(crate) enum Numbers {
-    Empty,
-    One(u64),
-    Two(u64, u64),
-}
-
-/// A call of the program: a command, the names of its files in sequence, and its numbers.
-#[derive(Drop)]
-pub(crate) struct Call<'a> {
-    pub(crate) command: Command,
-    pub(crate) names: &'a [String],
-    pub(crate) numbers: Numbers,
-}
-
 /// Reads the words after the program's name. The only fault is `Usage`. Takes no memory.
-pub(crate) fn call_of(words: &[String]) -> Result<Call<'_>, Fault>
-    ensures listed { IfOk result
-        (λ call. Says (texts words.now) call.command (texts call.names.now) call.numbers) }
+pub(crate) fn job_of(words: &[String]) -> Result<Job<&String>, Fault>
+    ensures listed { IfOk result (λ job. Says (texts words.now) (named job)) }
     ensures usage { IfErr result (λ fault. fault ≡ Fault.Usage) }
     ensures unlisted { IfErr result (λ _. ¬ (IsListed (texts words.now))) }
 {
-    let Some((name, arguments)) = words.split_first() else {
-        return Err(Fault::Usage);
-    };
-    let Some(command) = Command::of_name(name.as_str()) else {
-        return Err(Fault::Usage);
-    };
-    let count = command.limits().len();
-    if arguments.len() < count {
-        return Err(Fault::Usage);
-    }
-    let (names, after) = arguments.split_at(count);
-    let numbers = numbers_after(after, command.ranges())?;
-    Ok(Call {
-        command,
-        names,
-        numbers,
-    })
-}
-
-/// Reads the words after the files: one number of each range. The only fault is `Usage`.
-fn numbers_after(words: &[String], ranges: &[NumberRange]) -> Result<Numbers, Fault>
-    ensures fits { IfOk result (λ numbers. IsAfterFiles ranges.now (texts words.now) numbers) }
-    ensures usage { IfErr result (λ fault. fault ≡ Fault.Usage) }
-    ensures unfit { IfErr result
-        (λ _. (numbers : Numbers) → ¬ (IsAfterFiles ranges.now (texts words.now) numbers)) }
-{
-    match (words, ranges) {
-        ([], []) => Ok(Numbers::Empty),
-        ([word], [range]) => one_number(word.as_str(), *range),
-        ([first, second], [range, later]) => {
-            two_numbers(first.as_str(), second.as_str(), *range, *later)
-        }
+    match words {
+        [name, only] => job_of_one(name, only),
+        [name, first, second] => job_of_two(name, first, second),
+        [name, first, second, third] => job_of_three(name, first, second, third),
+        [name, first, second, third, fourth] => job_of_four(name, first, second, third, fourth),
         _ => Err(Fault::Usage),
     }
 }
 
-/// Reads a word as a number of a range. The only fault is `Usage`.
-fn one_number(word: &str, range: NumberRange) -> Result<Numbers, Fault>
-    ensures fits { IfOk result (λ numbers. IsAfterFiles (range ∷ []) (word.now ∷ []) numbers) }
+/// Reads the name of a command and one word after it, one row for each command. The only fault is `Usage`.
+fn job_of_one<'a>(name: &str, only: &'a String) -> Result<Job<&'a String>, Fault>
+    ensures listed { IfOk result (λ job. Says (name.now ∷ string_bytes only.now ∷ []) (named job)) }
     ensures usage { IfErr result (λ fault. fault ≡ Fault.Usage) }
-    ensures unfit { IfErr result (λ _. (numbers : Numbers) → ¬ (IsAfterFiles (range ∷ []) (word.now ∷ []) numbers)) }
+    ensures unlisted { IfErr result (λ _. ¬ (IsListed (name.now ∷ string_bytes only.now ∷ []))) }
 {
-    let number = number_of(word, range.least, range.most)?;
-    Ok(Numbers::One(number))
+    match name {
+        "instrument" => Ok(Job::Instrument { module: only }),
+        "reduce" => Ok(Job::Reduce { log: only }),
+        "show" => Ok(Job::Show { trace: only }),
+        "load" => Ok(Job::Load {
+            calls: number_of(only, LOAD_CALLS)? as u32,
+        }),
+        _ => Err(Fault::Usage),
+    }
 }
 
-/// Reads two words as numbers, each of its range. The only fault is `Usage`.
-fn two_numbers(
-    first: &str,
-    second: &str,
-    range: NumberRange,
-    later: NumberRange,
-) -> Result<Numbers, Fault>
-    ensures fits { IfOk result (λ numbers.
-        IsAfterFiles (range ∷ later ∷ []) (first.now ∷ second.now ∷ []) numbers) }
+/// Reads the name of a command and two words after it, one row for each command. The only fault is `Usage`.
+fn job_of_two<'a>(name: &str, first: &'a String, second: &str) -> Result<Job<&'a String>, Fault>
+    ensures listed { IfOk result (λ job.
+        Says (name.now ∷ string_bytes first.now ∷ second.now ∷ []) (named job)) }
     ensures usage { IfErr result (λ fault. fault ≡ Fault.Usage) }
-    ensures unfit { IfErr result (λ _. (numbers : Numbers)
-        → ¬ (IsAfterFiles (range ∷ later ∷ []) (first.now ∷ second.now ∷ []) numbers)) }
+    ensures unlisted { IfErr result (λ _. ¬ (IsListed (name.now ∷ string_bytes first.now ∷ second.now ∷ []))) }
 {
-    let number = number_of(first, range.least, range.most)?;
-    let second = number_of(second, later.least, later.most)?;
-    Ok(Numbers::Two(number, second))
+    match name {
+        "replay" => Ok(Job::Replay {
+            binary: first,
+            turns: number_of(second, RECORD_TURNS)?,
+        }),
+        _ => Err(Fault::Usage),
+    }
+}
+
+/// Reads the name of a command and three words after it, one row for each command. The only fault is `Usage`.
+fn job_of_three<'a>(
+    name: &str,
+    first: &'a String,
+    second: &'a String,
+    third: &'a String,
+) -> Result<Job<&'a String>, Fault>
+    ensures listed { IfOk result (λ job. Says
+        (name.now ∷ string_bytes first.now ∷ string_bytes second.now ∷ string_bytes third.now ∷ []) (named job)) }
+    ensures usage { IfErr result (λ fault. fault ≡ Fault.Usage) }
+    ensures unlisted { IfErr result (λ _. ¬ (IsListed
+        (name.now ∷ string_bytes first.now ∷ string_bytes second.now ∷ string_bytes third.now ∷ []))) }
+{
+    match name {
+        "make" => Ok(Job::Make {
+            module: first,
+            script: second,
+            turns: number_of(third, TURNS)?,
+        }),
+        "record" => Ok(Job::Record {
+            hooked: first,
+            script: second,
+            turns: number_of(third, RECORD_TURNS)?,
+        }),
+        "build" => Ok(Job::Build {
+            module: first,
+            script: second,
+            tape: third,
+        }),
+        "history" => Ok(Job::History {
+            module: first,
+            script: second,
+            turns: number_of(third, HISTORY_TURNS)?,
+        }),
+        _ => Err(Fault::Usage),
+    }
+}
+
+/// Reads the name of a command and four words after it, one row for each command. The only fault is `Usage`.
+fn job_of_four<'a>(
+    name: &str,
+    first: &'a String,
+    second: &'a String,
+    third: &'a String,
+    fourth: &str,
+) -> Result<Job<&'a String>, Fault>
+    ensures listed { IfOk result (λ job. Says
+        (name.now ∷ string_bytes first.now ∷ string_bytes second.now ∷ string_bytes third.now ∷ fourth.now ∷ [])
+        (named job)) }
+    ensures usage { IfErr result (λ fault. fault ≡ Fault.Usage) }
+    ensures unlisted { IfErr result (λ _. ¬ (IsListed
+        (name.now ∷ string_bytes first.now ∷ string_bytes second.now ∷ string_bytes third.now ∷ fourth.now ∷ []))) }
+{
+    match name {
+        "foreign" => Ok(Job::Foreign {
+            module: first,
+            decls: second,
+            script: third,
+            turns: number_of(fourth, TURNS)?,
+        }),
+        "foreign-history" => Ok(Job::ForeignHistory {
+            module: first,
+            decls: second,
+            script: third,
+            turns: number_of(fourth, HISTORY_TURNS)?,
+        }),
+        "pair" => Ok(Job::Pair {
+            left: first,
+            right: second,
+            script: third,
+            turns: number_of(fourth, TURNS)?,
+        }),
+        "pair-history" => Ok(Job::PairHistory {
+            left: first,
+            right: second,
+            script: third,
+            turns: number_of(fourth, HISTORY_TURNS)?,
+        }),
+        "from" => Ok(Job::From {
+            module: first,
+            script: second,
+            turns: number_of(third, TURNS)?,
+            call: number_of(fourth, CALL_NUMBERS)? as u32,
+        }),
+        _ => Err(Fault::Usage),
+    }
+}
+
+/// Reads a number of a range in decimal, without a sign and leading zeros. The only fault is `Usage`.
+fn number_of(word: &str, range: NumberRange) -> Result<u64, Fault>
+    ensures fits { IfOk result (λ number. IsNumber range word.now number) }
+    ensures usage { IfErr result (λ fault. fault ≡ Fault.Usage) }
+    ensures unfit { IfErr result (λ _. (number : ℕ) → ¬ (IsNumber range word.now number)) }
+{
+    number_between(word, range.least, range.most)
 }
 
 /// Reads a number from `least` to `most` in decimal, without a sign and leading zeros. The only fault is `Usage`.
-fn number_of(word: &str, least: u64, most: u64) -> Result<u64, Fault>
+fn number_between(word: &str, least: u64, most: u64) -> Result<u64, Fault>
     ensures fits { IfOk result (λ number. IsNumber (record { least = least; most = most }) word.now number) }
     ensures usage { IfErr result (λ fault. fault ≡ Fault.Usage) }
     ensures unfit { IfErr result

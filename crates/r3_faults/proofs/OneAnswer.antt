@@ -1,6 +1,6 @@
 -- What a result with its cause implies if there is at most one cause or one text.
 use Rattle.std.proofs.Common.{◌≡◌, ◌⊎◌, ℕ, List, Vec, inl, inr, Result, Ok, Err, IfOk, IfErr, ap}
-use Rattle.r3_faults.specs.Answers.{IsCaused, IsExact}
+use Rattle.r3_faults.specs.Answers.{IsCaused, IsExact, IsReplayAnswer}
 use Rattle.r3_faults.specs.declared.faults.Fault.{Fault}
 use Rattle.r3_faults.specs.declared.faults.Fault.TheVariants.{Memory}
 
@@ -39,4 +39,26 @@ exact_answer Printed Refusal apart one_text one_cause answer is = record {
   refused = refused_answer Printed Refusal apart answer (λ bytes. bytes.items) is.printed is.cause one_cause;
   printed = is.printed;
   accepted = accepted_answer Printed Refusal apart answer (λ bytes. bytes.items) is.printed is.cause one_text;
+}
+
+-- if nothing refuses, a result with its cause fails only for want of memory
+memory_alone : {T : Type 0} (Refusal : Fault → Type 0) → ((fault : Fault) → Refusal fault → ⊥) → (answer : Result T Fault)
+    → IfErr answer (λ fault. (fault ≡ Memory) ⊎ Refusal fault) → IfErr answer (λ fault. fault ≡ Memory)
+memory_alone Refusal none (Ok x) cause = tt
+memory_alone Refusal none (Err fault) (inl memory) = memory
+memory_alone Refusal none (Err fault) (inr refusal) = absurd (none fault refusal)
+
+-- a result with its cause is the answer of a call that prints a replay module if at most one fault refuses, none refuses
+-- what is printed, and none refuses where there is a replay module
+pub replay_answer : {Z : Type 0} (Printed : List ℕ → Type 0) (Refusal : Fault → Type 0) (Replayable : Type 0)
+    → ((x : List ℕ) (fault : Fault) → Printed x → Refusal fault → ⊥)
+    → (Replayable → (fault : Fault) → Refusal fault → ⊥)
+    → ((fault other : Fault) → Refusal fault → Refusal other → fault ≡ other)
+    → (answer : Result (Vec ℕ Z) Fault) → IsCaused Printed Refusal answer
+    → IsReplayAnswer Printed Refusal Replayable answer
+replay_answer Printed Refusal Replayable apart none one_cause answer is = record {
+  cause = is.cause;
+  refused = refused_answer Printed Refusal apart answer (λ bytes. bytes.items) is.printed is.cause one_cause;
+  printed = is.printed;
+  accepted = λ these. memory_alone Refusal (none these) answer is.cause;
 }

@@ -1,1 +1,1 @@
-mod OneAnswer
+pub mod OneAnswer

@@ -24,7 +24,7 @@ module _ (m : Module) (script : Script) (turns : ℕ) (one : (initial : StepResu
   printed-unprinted text fault h (OfLink u) = unlinked-started m script fault h.ends.initial u h.ends.starts
   printed-unprinted text fault h (OfOutcome u) = outcome-none m script turns one h.run h.outcome fault h.ends u
 
-  printed-one : (x y : List ℕ) → IsHistoryOf m script turns x → IsHistoryOf m script turns y → x ≡ y
+  pub printed-one : (x y : List ℕ) → IsHistoryOf m script turns x → IsHistoryOf m script turns y → x ≡ y
   printed-one x y h i =
       h.lines
       ∙ ap (λ (r : Run). history_text r.history h.outcome) (run-one m script turns one h.run i.run h.outcome i.outcome h.ends i.ends)

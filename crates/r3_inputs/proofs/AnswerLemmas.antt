@@ -1,7 +1,6 @@
 -- What a fault, or a value, implies for another result.
-use Rattle.std.proofs.Common.{◌≡◌, ◌⊎◌, inl, inr, ℕ, List, Vec, Result, Ok, Err, IfOk, IfErr, sym, ◌∙◌, ap, subst}
+use Rattle.std.proofs.Common.{◌≡◌, ◌⊎◌, inl, inr, Result, Ok, Err, IfOk, IfErr, sym, ◌∙◌, ap, subst}
 use Rattle.std.specs.Result.{IsErrAnd}
-use Rattle.r3_faults.specs.Answers.{IsExact}
 use Rattle.r3_faults.specs.declared.faults.Fault.{Fault}
 use Rattle.r3_faults.specs.declared.faults.Fault.TheVariants.{Memory}
 
@@ -53,23 +52,3 @@ pub answer-passed : {T : Type 0} (r : Result T Fault) (fault wanted : Fault)
 answer-passed (Ok x) fault wanted e either = absurd e
 answer-passed (Err other) fault wanted e (inl same) = inl (ap Err (e ∙ same))
 answer-passed (Err other) fault wanted e (inr memory) = inr (ap Err (e ∙ memory))
-
--- a call that passes on the fault of its first step is exact: each text that may be printed needs a value of the
--- step
-pub passed_exact : {U Z : Type 0} (q : Result U Fault) (err : Fault) → q ≡ Err err
-    → (Printed : List ℕ → Type 0) (Refusal : Fault → Type 0) (r : Result (Vec ℕ Z) Fault)
-    → IsErrAnd r (λ other. other ≡ err) → (err ≡ Memory) ⊎ Refusal err
-    → ((fault : Fault) → Refusal fault → IsAnswer r fault)
-    → ((text : List ℕ) → Printed text → (x : U) × ((q ≡ Ok x) ⊎ (q ≡ Err Memory)))
-    → IsExact Printed Refusal r
-passed_exact q err is Printed Refusal r passes cause refused asks =
-    record {
-      cause = passed r err (λ fault. (fault ≡ Memory) ⊎ Refusal fault) passes cause;
-      refused = refused;
-      printed = not-printed r err (λ bytes. Printed bytes.items) passes;
-      accepted = λ text shown.
-          let asked = asks text shown in (
-            not-printed r err (λ bytes. bytes.items ≡ text) passes,
-            passed r err (λ other. other ≡ Memory) passes (memory-err q asked.0 err is asked.1),
-          );
-    }

@@ -2,3 +2,4 @@ pub mod Acceptance
 pub mod Refusals
 pub mod AnswerLemmas
 pub mod Stages
+pub mod TextStages

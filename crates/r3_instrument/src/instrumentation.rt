@@ -1,6 +1,6 @@
 // `instrument`: the instrumented module of a module, from bytes to bytes.
 
-ghost use Rattle.std.specs.Prelude.{◌≡◌, ◌≤◌, ◌<◌, ◌⊎◌, ℕ, List, Err, IfErr, IfOk, OnOk, length};
+ghost use Rattle.std.specs.Prelude.{◌≡◌, ◌≤◌, ◌<◌, ◌⊎◌, IfErr, IfOk, OnOk, length};
 ghost use Rattle.sha2.specs.Sha256.{sha256};
 ghost use Rattle.wasm_syntax.specs.declared.limits.TheConstants.{MAX_FILE_BYTES, MAX_INSTRUMENTED_BYTES};
 ghost use Rattle.wasm_syntax.specs.declared.forms.Form.TheVariants.{Replay};
@@ -8,7 +8,7 @@ ghost use Rattle.wasm_syntax.specs.Encoding.Encodable.{IsEncodable};
 ghost use Rattle.wasm_syntax.specs.Encoding.Shortest.{encoding_of};
 ghost use Rattle.wasm_flat.specs.Sizes.{IsShort};
 ghost use Rattle.record_replay_spec.specs.Instrumented.{instrumented_module};
-ghost use Rattle.r3_faults.specs.declared.faults.Fault.{Fault};
+ghost use Rattle.r3_faults.specs.Answers.{IsCaused, IsExact};
 ghost use Rattle.r3_faults.specs.declared.faults.Fault.TheVariants.{HookedLimit, Memory};
 ghost use Rattle.r3_inputs.specs.Inputs.{IsModuleOf};
 ghost use Rattle.r3_instrument.specs.InstrumentedBytes.{IsHooked, IsHookedOf, IsHookedRefusal, IsTooLong};
@@ -32,12 +32,7 @@ use wasm_validate::Checked;
 /// `MAX_INSTRUMENTED_BYTES`. `Memory` if memory is out.
 pub fn instrument_bytes(alloc: Global, module: &[u8]) -> Result<Vec<u8>, Fault>
     requires { length «module».now ≤ MAX_FILE_BYTES }
-    ensures cause { IfErr result (λ fault. (fault ≡ Memory) ⊎ IsHookedRefusal «module».now fault) }
-    ensures refused { (fault : Fault) → IsHookedRefusal «module».now fault
-        → (result ≡ Err fault) ⊎ (result ≡ Err Memory) }
-    ensures printed { IfOk result (λ bytes. IsHookedOf «module».now bytes.items) }
-    ensures accepted { (text : List ℕ) → IsHookedOf «module».now text
-        → IfOk result (λ bytes. bytes.items ≡ text) × IfErr result (λ fault. fault ≡ Memory) }
+    ensures { IsExact (IsHookedOf «module».now) (IsHookedRefusal «module».now) result }
 {
     match module_of(alloc, module) {
         Ok(checked) => hooked_of(alloc, module, checked),
@@ -50,8 +45,7 @@ fn hooked_of(alloc: Global, bytes: &[u8], checked: Checked) -> Result<Vec<u8>, F
     requires few { length bytes.now ≤ MAX_FILE_BYTES }
     requires is_module { IsModuleOf bytes.now checked }
     requires short { IsShort checked }
-    ensures cause { IfErr result (λ fault. (fault ≡ Memory) ⊎ IsTooLong bytes.now checked fault) }
-    ensures printed { IfOk result (λ made. IsHooked bytes.now checked made.items) }
+    ensures { IsCaused (IsHooked bytes.now checked) (IsTooLong bytes.now checked) result }
 {
     let hooked = hooked_module(alloc, bytes, checked)?;
     encode_hooked(alloc, &hooked)

@@ -35,7 +35,6 @@ use Rattle.rest_laws.specs.Calls.{AtStart, InRun, IsCallOfRun, CallsAreOfRuns}
 use Rattle.rest_laws.specs.Laws.{IsSameKnown, KnownBeforeIsKept, RestsAreThere}
 use Rattle.rest_laws.specs.TopEnters.{LogsKnowWhatIsKnown, TopCallsAreReported, first_order, hooked_store, renumbered_known}
 use Rattle.checkpoint.specs.FrozenRuns.{IsFrozenAt}
-use Rattle.accepted_runs.specs.Linked.{IsLinked}
 use Rattle.accepted_runs.specs.Runs.{HasOutcome, OfScript, OfTurns}
 use Rattle.host_play.specs.Results.{IsFault}
 use Rattle.accepted_runs.proofs.OneResult.{linked-starts}
@@ -122,144 +121,143 @@ module _ (run : OriginalRun) (turns : ℕ) (reports : ReportsOriginal run turns)
 
   -- ---- too few calls
 
-  module _ (linked : IsLinked run.m run.script run.supply run.store) where
-    abbrev ends : HasOutcome run.m run.script turns (original_run run of.count) found.outcome
-    ends = outcome_of_log run turns reports linked found.outcome has.log has.is_log
+  abbrev ends : HasOutcome run.m run.script turns (original_run run of.count) found.outcome
+  ends = outcome_of_log run turns reports found.outcome has.log has.is_log
 
-    few : TopCallsAreReported → number < 2 ^ 32 → (fault : Fault) → found.calls ≤ number
-        → fault ≡ NoCall number found.calls → HasNoRest run.m run.script turns number fault
-    few reported small fault less named =
-        OfCalls
-        (record {
-          run = original_run run of.count;
-          outcome = found.outcome;
-          ends = ends;
-          few = few_calls number calls found.calls small (counted reported) less;
-          named = named ∙ ap (NoCall number) (counted reported);
-        })
+  few : TopCallsAreReported → number < 2 ^ 32 → (fault : Fault) → found.calls ≤ number
+      → fault ≡ NoCall number found.calls → HasNoRest run.m run.script turns number fault
+  few reported small fault less named =
+      OfCalls
+      (record {
+        run = original_run run of.count;
+        outcome = found.outcome;
+        ends = ends;
+        few = few_calls number calls found.calls small (counted reported) less;
+        named = named ∙ ap (NoCall number) (counted reported);
+      })
 
-    -- the run needs the tape of the log
-    abbrev needed : (tape : Tape) → IsLogTape (log_for (imported_funcs run.m) has.log.events found.outcome) tape
-        → NeedsTape run.m run.script turns run.supply run.store tape
-    needed = needs run turns reports linked found.outcome has.log has.is_log
+  -- the run needs the tape of the log
+  abbrev needed : (tape : Tape) → IsLogTape (log_for (imported_funcs run.m) has.log.events found.outcome) tape
+      → NeedsTape run.m run.script turns run.supply run.store tape
+  needed = needs run turns reports found.outcome has.log has.is_log
 
-    -- ---- a call that is there
+  -- ---- a call that is there
 
-    module _ (imports : ℕ) (same : imports ≡ imported_funcs run.m) where
-      -- the tape of the log is that of the log for the inputs' number of imports
-      light_for : (result : Result Tape Fault) → IsLightTape (log_for imports has.log.events found.outcome) result
-          → IsLightTape (log_for (imported_funcs run.m) has.log.events found.outcome) result
-      light_for result = subst (λ n. IsLightTape (log_for n has.log.events found.outcome) result) same
+  module _ (imports : ℕ) (same : imports ≡ imported_funcs run.m) where
+    -- the tape of the log is that of the log for the inputs' number of imports
+    light_for : (result : Result Tape Fault) → IsLightTape (log_for imports has.log.events found.outcome) result
+        → IsLightTape (log_for (imported_funcs run.m) has.log.events found.outcome) result
+    light_for result = subst (λ n. IsLightTape (log_for n has.log.events found.outcome) result) same
 
-      pub balanced : LogsAreBalanced
-          → (events : List Event) × HasTaken found.reducer events × IsBalanced (log_for imports events found.outcome)
-      balanced law = taken run turns reports linked imports same found.reducer found.outcome reported_to law
+    pub balanced : LogsAreBalanced
+        → (events : List Event) × HasTaken found.reducer events × IsBalanced (log_for imports events found.outcome)
+    balanced law = taken run turns reports imports same found.reducer found.outcome reported_to law
 
-      module _ (of_runs : CallsAreOfRuns) (kept : KnownBeforeIsKept) (rests : RestsAreThere)
-          (reported : TopCallsAreReported) (knows : LogsKnowWhatIsKnown) where
-        -- the history has a rest from the call on
-        rest_at : number < found.calls
-            → (rest : List Entry) × (rest_of (original_run run of.count).history number 0 ≡ Some rest)
-        rest_at more =
-            (rests (original_run run of.count).history number 0).there
-            (more_calls number calls found.calls (counted reported) more)
+    module _ (of_runs : CallsAreOfRuns) (kept : KnownBeforeIsKept) (rests : RestsAreThere)
+        (reported : TopCallsAreReported) (knows : LogsKnowWhatIsKnown) where
+      -- the history has a rest from the call on
+      rest_at : number < found.calls
+          → (rest : List Entry) × (rest_of (original_run run of.count).history number 0 ≡ Some rest)
+      rest_at more =
+          (rests (original_run run of.count).history number 0).there
+          (more_calls number calls found.calls (counted reported) more)
 
-        -- something is known before the call
-        known_at : number < found.calls
-            → (known : Known)
-            × (known_before number 0 (opening_known run.store) []
-            (run_observations (program_of run.m run.script) (start_in_store run.m run.script run.store) of.count)
-            ≡ Some known)
-        known_at more =
-            let rest = rest_at more in
-            known_there of_runs kept run.m run.script run.store of.count number rest.0 rest.1
+      -- something is known before the call
+      known_at : number < found.calls
+          → (known : Known)
+          × (known_before number 0 (opening_known run.store) []
+          (run_observations (program_of run.m run.script) (start_in_store run.m run.script run.store) of.count)
+          ≡ Some known)
+      known_at more =
+          let rest = rest_at more in
+          known_there of_runs kept run.m run.script run.store of.count number rest.0 rest.1
 
-        -- what is frozen shows what is known
-        shown : (known : Known)
-            → known_before number 0 (opening_known run.store) []
-            (run_observations (program_of run.m run.script) (start_in_store run.m run.script run.store) of.count)
-            ≡ Some known
-            → (view : FrozenView) × (found.frozen ≡ Some view)
-            × ShowsFrozen view (renumbered_known (imported_funcs run.m) known) × (view.imports ≡ imported_funcs run.m)
-        shown known is =
-            let log = knows run of.count number known is in
-            let seen = subst (λ state. IsFrozenAt (hooked_shape run) state found.frozen) log.is_log frozen in
-            (seen.0, seen.1, subst (ShowsFrozen seen.0) log.knows seen.2, seen.3)
+      -- what is frozen shows what is known
+      shown : (known : Known)
+          → known_before number 0 (opening_known run.store) []
+          (run_observations (program_of run.m run.script) (start_in_store run.m run.script run.store) of.count)
+          ≡ Some known
+          → (view : FrozenView) × (found.frozen ≡ Some view)
+          × ShowsFrozen view (renumbered_known (imported_funcs run.m) known) × (view.imports ≡ imported_funcs run.m)
+      shown known is =
+          let log = knows run of.count number known is in
+          let seen = subst (λ state. IsFrozenAt (hooked_shape run) state found.frozen) log.is_log frozen in
+          (seen.0, seen.1, subst (ShowsFrozen seen.0) log.knows seen.2, seen.3)
 
-        -- without anything frozen there are too few calls
-        pub none_frozen : IfNone found.frozen (found.calls ≤ number)
-        none_frozen = go found.frozen refl
+      -- without anything frozen there are too few calls
+      pub none_frozen : IfNone found.frozen (found.calls ≤ number)
+      none_frozen = go found.frozen refl
+        where
+          go : (o : Option FrozenView) → found.frozen ≡ o → IfNone o (found.calls ≤ number)
+          go None e = not_more number found.calls (λ more.
+              let known = known_at more in
+              let seen = shown known.0 known.1 in
+              no_view seen.0 (sym e ∙ seen.1))
+            where
+              no_view : (view : FrozenView) → None ≡ Some view → ⊥
+              no_view view e = cc e
+          go (Some view) e = tt
+
+      module _ (result : Result (Tape × FrozenView) Fault)
+          (answers : (events : List Event) → HasTaken found.reducer events
+          → IsTapeAt found (log_for imports events found.outcome) number result) where
+        answered : IsTapeAt found (log_for imports has.log.events found.outcome) number result
+        answered = answers has.log.events has.taken.has
+
+        pub frozen_answer : IfOk result (λ made. IsFrozenTape run turns number made.0 made.1)
+        frozen_answer = go result answered
           where
-            go : (o : Option FrozenView) → found.frozen ≡ o → IfNone o (found.calls ≤ number)
-            go None e = not_more number found.calls (λ more.
+            same_view : (a b : FrozenView) → found.frozen ≡ Some a → found.frozen ≡ Some b → a ≡ b
+            same_view a b e f = cc (sym e ∙ f)
+
+            go : (r : Result (Tape × FrozenView) Fault)
+                → IsTapeAt found (log_for imports has.log.events found.outcome) number r
+                → IfOk r (λ made. IsFrozenTape run turns number made.0 made.1)
+            go (Ok made) (more, light, is) =
+                let tape = light_for (Ok made.0) light in
+                let rest = rest_at more in
                 let known = known_at more in
                 let seen = shown known.0 known.1 in
-                no_view seen.0 (sym e ∙ seen.1))
-              where
-                no_view : (view : FrozenView) → None ≡ Some view → ⊥
-                no_view view e = cc e
-            go (Some view) e = tt
+                let view = same_view seen.0 made.1 seen.1 is in
+                record {
+                  needed = needed made.0 tape.0;
+                  light = tape.1;
+                  rest = rest.0;
+                  is_rest = rest.1;
+                  known = known.0;
+                  is_known = known.1;
+                  shows = subst
+                      (λ view. ShowsFrozen view (renumbered_known (imported_funcs run.m) known.0)) view seen.2;
+                  imports = subst (λ (view : FrozenView). view.imports ≡ imported_funcs run.m) view seen.3;
+                }
+            go (Err fault) is = tt
 
-        module _ (result : Result (Tape × FrozenView) Fault)
-            (answers : (events : List Event) → HasTaken found.reducer events
-            → IsTapeAt found (log_for imports events found.outcome) number result) where
-          answered : IsTapeAt found (log_for imports has.log.events found.outcome) number result
-          answered = answers has.log.events has.taken.has
+        pub no_answer : number < 2 ^ 32
+            → IfErr result (λ fault. (fault ≡ Memory) ⊎ HasNoRest run.m run.script turns number fault)
+        no_answer small = go result answered
+          where
+            heavy : (fault : Fault) → number < found.calls
+                → IsLightTape (log_for (imported_funcs run.m) has.log.events found.outcome) (Err fault)
+                → (fault ≡ Memory) ⊎ HasNoRest run.m run.script turns number fault
+            heavy fault more (inl memory) = inl memory
+            heavy fault more (inr h) =
+                inr
+                (OfWeight
+                (record {
+                  heavy = record {
+                    supply = run.supply;
+                    store = run.store;
+                    tape = h.tape;
+                    needed = needed h.tape h.is_tape;
+                    heavy = h.heavy;
+                    named = h.named;
+                  };
+                  call = more_calls number calls found.calls (counted reported) more;
+                }))
 
-          pub frozen_answer : IfOk result (λ made. IsFrozenTape run turns number made.0 made.1)
-          frozen_answer = go result answered
-            where
-              same_view : (a b : FrozenView) → found.frozen ≡ Some a → found.frozen ≡ Some b → a ≡ b
-              same_view a b e f = cc (sym e ∙ f)
-
-              go : (r : Result (Tape × FrozenView) Fault)
-                  → IsTapeAt found (log_for imports has.log.events found.outcome) number r
-                  → IfOk r (λ made. IsFrozenTape run turns number made.0 made.1)
-              go (Ok made) (more, light, is) =
-                  let tape = light_for (Ok made.0) light in
-                  let rest = rest_at more in
-                  let known = known_at more in
-                  let seen = shown known.0 known.1 in
-                  let view = same_view seen.0 made.1 seen.1 is in
-                  record {
-                    needed = needed made.0 tape.0;
-                    light = tape.1;
-                    rest = rest.0;
-                    is_rest = rest.1;
-                    known = known.0;
-                    is_known = known.1;
-                    shows = subst
-                        (λ view. ShowsFrozen view (renumbered_known (imported_funcs run.m) known.0)) view seen.2;
-                    imports = subst (λ (view : FrozenView). view.imports ≡ imported_funcs run.m) view seen.3;
-                  }
-              go (Err fault) is = tt
-
-          pub no_answer : number < 2 ^ 32
-              → IfErr result (λ fault. (fault ≡ Memory) ⊎ HasNoRest run.m run.script turns number fault)
-          no_answer small = go result answered
-            where
-              heavy : (fault : Fault) → number < found.calls
-                  → IsLightTape (log_for (imported_funcs run.m) has.log.events found.outcome) (Err fault)
-                  → (fault ≡ Memory) ⊎ HasNoRest run.m run.script turns number fault
-              heavy fault more (inl memory) = inl memory
-              heavy fault more (inr h) =
-                  inr
-                  (OfWeight
-                  (record {
-                    heavy = record {
-                      supply = run.supply;
-                      store = run.store;
-                      tape = h.tape;
-                      needed = needed h.tape h.is_tape;
-                      heavy = h.heavy;
-                      named = h.named;
-                    };
-                    call = more_calls number calls found.calls (counted reported) more;
-                  }))
-
-              go : (r : Result (Tape × FrozenView) Fault)
-                  → IsTapeAt found (log_for imports has.log.events found.outcome) number r
-                  → IfErr r (λ fault. (fault ≡ Memory) ⊎ HasNoRest run.m run.script turns number fault)
-              go (Ok made) is = tt
-              go (Err fault) (inl (less, named)) = inr (few reported small fault less named)
-              go (Err fault) (inr (more, light)) = heavy fault more (light_for (Err fault) light)
+            go : (r : Result (Tape × FrozenView) Fault)
+                → IsTapeAt found (log_for imports has.log.events found.outcome) number r
+                → IfErr r (λ fault. (fault ≡ Memory) ⊎ HasNoRest run.m run.script turns number fault)
+            go (Ok made) is = tt
+            go (Err fault) (inl (less, named)) = inr (few reported small fault less named)
+            go (Err fault) (inr (more, light)) = heavy fault more (light_for (Err fault) light)

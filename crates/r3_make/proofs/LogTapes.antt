@@ -16,17 +16,18 @@ use Rattle.record_replay_spec.specs.LogTapes.{IsLogTape}
 use Rattle.record_replay_spec.specs.Logs.{log_with}
 use Rattle.host_play.specs.Results.{IsFault}
 use Rattle.host_play.specs.declared.results.PlayFault.{PlayFault}
+use Rattle.host_play.specs.declared.results.PlayFault.TheVariants as refusal
 use Rattle.tape_laws.specs.CallLaws.{OriginalRun}
 use Rattle.tape_laws.specs.LogLaws.{LogsAreBalanced, log_of_run}
 use Rattle.instrumented_run_laws.specs.Laws.{original_run}
 use Rattle.tape_laws.specs.NeededTape.{IsOneNeededTape}
 use Rattle.trace_reduce.specs.declared.reducer.Reducer.{Reducer}
 use Rattle.trace_reduce.specs.Reducer.{HasTaken, HasTakenFor, HasTakenSince, imports_of, most_of}
-use Rattle.run_recorder.specs.Records.{HasTakenLog, IsLog, IsRecordedInto, RecordedRun}
+use Rattle.run_recorder.specs.Records.{HasTakenLog, IsLog, IsRecordedInto, RecordedRun, RefusesRecord}
 use Rattle.replay_theorem.specs.RecordedOriginalLaws.{IsLogOfRun, ReportsOriginal, record_of}
 use Rattle.replay_theorem.proofs.Recorded.{over_at}
 use Rattle.accepted_runs.specs.Linked.{IsLinked}
-use Rattle.accepted_runs.specs.Runs.{HasNoOutcome, HasOutcome, OfScript, OfTurns}
+use Rattle.accepted_runs.specs.Runs.{HasNoOutcome, HasOutcome, OfScript, OfTurns, run_fault}
 use Rattle.accepted_runs.proofs.OneResult.{linked-starts}
 use Rattle.r3_faults.specs.declared.faults.Fault.{Fault}
 use Rattle.r3_faults.specs.declared.faults.Fault.TheVariants.{Memory, Script as ScriptFault, Spent}
@@ -56,8 +57,10 @@ pub taken_log : {imports most : ℕ} (r : RecordedRun) (reducer : Reducer) (outc
     → HasTakenLog (HasTakenFor imports most) r reducer outcome → HasTakenLog HasTaken r reducer outcome
 taken_log r reducer outcome h = record { log = h.log; is_log = h.is_log; taken = h.taken.has }
 
-module _ (run : OriginalRun) (turns : ℕ) (reports : ReportsOriginal run turns)
-    (linked : IsLinked run.m run.script run.supply run.store) where
+module _ (run : OriginalRun) (turns : ℕ) (reports : ReportsOriginal run turns) where
+  abbrev pub linked : IsLinked run.m run.script run.supply run.store
+  linked = record { supplied = run.supplied; begins = run.opens }
+
   -- a log of the record has the record's imports, its own events and the outcome
   pub log_parts : (outcome : Outcome) (log : Log) → IsLog (record_of run turns) outcome log
       → log ≡ log_for (imported_funcs run.m) log.events outcome
@@ -113,7 +116,7 @@ module _ (run : OriginalRun) (turns : ℕ) (reports : ReportsOriginal run turns)
           }
 
   -- why the run has no outcome
-  pub faulty : (turn : ℕ) (kind : FaultKind)
+  faulty : (turn : ℕ) (kind : FaultKind)
       → IsFault (program_of run.m run.script) (start_in_store run.m run.script run.store) turns turn kind
       → HasNoOutcome run.m run.script turns (ScriptFault turn kind)
   faulty turn kind is =
@@ -127,7 +130,7 @@ module _ (run : OriginalRun) (turns : ℕ) (reports : ReportsOriginal run turns)
         faulty = is;
       })
 
-  pub spent : IsSpent (original_run run) all_one turns → HasNoOutcome run.m run.script turns (Spent turns)
+  spent : IsSpent (original_run run) all_one turns → HasNoOutcome run.m run.script turns (Spent turns)
   spent is =
       OfTurns
       (record {
@@ -137,8 +140,19 @@ module _ (run : OriginalRun) (turns : ℕ) (reports : ReportsOriginal run turns)
         spent = is;
       })
 
+  -- what the fault of the recorded run says of the original's run
+  pub refused_as : (Refusal : Fault → Type 0)
+      → ((fault : Fault) → HasNoOutcome run.m run.script turns fault → Refusal fault) → (found : PlayFault)
+      → RefusesRecord (record_of run turns) found
+      → (run_fault turns found ≡ Memory) ⊎ Refusal (run_fault turns found)
+  refused_as Refusal of_run (refusal.Fault turn kind) is =
+      inr (of_run (ScriptFault turn kind) (faulty turn kind (reports.faults turn kind is)))
+  refused_as Refusal of_run refusal.Spent is = inr (of_run (Spent turns) (spent (reports.spends is)))
+  refused_as Refusal of_run (refusal.Hook number) is = absurd (reports.ordered number is)
+  refused_as Refusal of_run refusal.Memory is = inl refl
+
   -- why there is no tape
-  pub heavy : (outcome : Outcome) (log : Log) → IsLog (record_of run turns) outcome log → (fault : Fault)
+  heavy : (outcome : Outcome) (log : Log) → IsLog (record_of run turns) outcome log → (fault : Fault)
       → IsHeavyLog (log_for (imported_funcs run.m) log.events outcome) fault → IsUnmade run.m run.script turns fault
   heavy outcome log is fault h =
       OfWeight

@@ -1,5 +1,5 @@
 -- A run under a script has at most one result.
-use Rattle.std.proofs.Common.{◌≡◌, ◌⊎◌, inl, inr, ℕ, ◌^◌, ◌-◌, List, Result, Ok, Err, IfOk, IfErr, Vec, sym, ◌∙◌, ap, subst, arith}
+use Rattle.std.proofs.Common.{◌≡◌, ℕ, ◌^◌, ◌-◌, List, Result, Vec, sym, ◌∙◌, ap, subst, arith}
 use Rattle.std.specs.Prelude.{min}
 use Rattle.wasm_syntax.specs.declared.modules.Module.{Module}
 use Rattle.host_script.specs.declared.scripts.Script.{Script}
@@ -12,8 +12,10 @@ use Rattle.history_spec.specs.Step.{StepResult}
 use Rattle.history_spec.specs.Store.{Store}
 use Rattle.record_replay_spec.specs.Needed.{IsNeededTape}
 use Rattle.accepted_runs.proofs.OneResult.{linked-unlinked, none-one, one-store, outcome-none, unlinked-one, unlinked-run}
+use Rattle.r3_faults.specs.Answers.{IsCaused, IsReplayAnswer}
 use Rattle.r3_faults.specs.declared.faults.Fault.{Fault}
-use Rattle.r3_faults.specs.declared.faults.Fault.TheVariants.{Memory, TapeLimit}
+use Rattle.r3_faults.specs.declared.faults.Fault.TheVariants.{TapeLimit}
+use Rattle.r3_faults.proofs.OneAnswer.{replay_answer}
 use Rattle.r3_make.specs.Printed.{IsReplayFor}
 use Rattle.r3_make.specs.Refusals.{IsUnmade, OfLink, OfRun, OfWeight}
 use Rattle.r3_make.specs.Tapes.{NeedsLightTape, NeedsTape}
@@ -64,17 +66,10 @@ module _ (m : Module) (script : Script) (turns : ℕ)
         light-unmade fault
         (record { supply = is.supply; store = is.store; tape = is.tape; needed = is.needed; light = is.light }) unmade
 
-    -- if there is a cause, the answer reports it; if there is a replay module, the answer is that module
-    pub refused_answer : {Z : Type 0} (r : Result (Vec ℕ Z) Fault) (fault : Fault)
-        → IfOk r (λ printed. IsReplayFor m script turns printed.items)
-        → IfErr r (λ f. (f ≡ Memory) ⊎ IsUnmade m script turns f) → IsUnmade m script turns fault
-        → (r ≡ Err fault) ⊎ (r ≡ Err Memory)
-    refused_answer (Ok printed) fault is cause unmade = absurd (replay-unmade printed.items fault is unmade)
-    refused_answer (Err f) fault is (inl memory) unmade = inr (ap Err memory)
-    refused_answer (Err f) fault is (inr other) unmade = inl (ap Err (unmade-one f fault other unmade))
-
-    pub accepted_answer : {T : Type 0} (r : Result T Fault) → IfErr r (λ f. (f ≡ Memory) ⊎ IsUnmade m script turns f)
-        → NeedsLightTape m script turns → IfErr r (λ f. f ≡ Memory)
-    accepted_answer (Ok x) cause is = tt
-    accepted_answer (Err f) (inl memory) is = memory
-    accepted_answer (Err f) (inr other) is = absurd (light-unmade f is other)
+    -- a result with its cause is the answer of a call that prints a replay module
+    pub replay_is : {Z : Type 0} (r : Result (Vec ℕ Z) Fault)
+        → IsCaused (IsReplayFor m script turns) (IsUnmade m script turns) r
+        → IsReplayAnswer (IsReplayFor m script turns) (IsUnmade m script turns) (NeedsLightTape m script turns) r
+    replay_is =
+        replay_answer (IsReplayFor m script turns) (IsUnmade m script turns) (NeedsLightTape m script turns)
+        replay-unmade (λ light fault. light-unmade fault light) unmade-one

@@ -1,5 +1,5 @@
 -- A run has one answer for a top-level call.
-use Rattle.std.proofs.Common.{◌≡◌, ◌⊎◌, inl, inr, ℕ, ◌<◌, ◌≤◌, ◌^◌, ◌-◌, List, Result, Ok, Err, IfErr, sym, ◌∙◌, ap, arith}
+use Rattle.std.proofs.Common.{◌≡◌, ℕ, ◌<◌, ◌≤◌, ◌^◌, ◌-◌, List, Vec, Result, sym, ◌∙◌, ap, arith}
 use Rattle.std.specs.Prelude.{min}
 use Rattle.wasm_syntax.specs.declared.modules.Module.{Module}
 use Rattle.host_script.specs.declared.scripts.Script.{Script}
@@ -11,8 +11,10 @@ use Rattle.rest_spec.specs.Rests.{calls_in}
 use Rattle.rest_laws.specs.Laws.{RestsAreThere}
 use Rattle.accepted_runs.specs.Runs.{HasOutcome}
 use Rattle.accepted_runs.proofs.OneResult.{outcome-none, run-one, unlinked-started}
+use Rattle.r3_faults.specs.Answers.{IsCaused, IsReplayAnswer}
 use Rattle.r3_faults.specs.declared.faults.Fault.{Fault}
-use Rattle.r3_faults.specs.declared.faults.Fault.TheVariants.{Memory, NoCall}
+use Rattle.r3_faults.specs.declared.faults.Fault.TheVariants.{NoCall}
+use Rattle.r3_faults.proofs.OneAnswer.{replay_answer}
 use Rattle.r3_make.specs.Refusals as make
 use Rattle.r3_make.proofs.OneAnswer.{light-unmade, unmade-one}
 use Rattle.r3_make.specs.RestRefusals.{HasCall, HasFewCalls, HasNoRest, OfCalls, OfLink, OfRun, OfWeight}
@@ -36,7 +38,7 @@ module _ (m : Module) (script : Script) (turns number : ℕ)
         ∙ ap (λ calls. NoCall number (min calls (2 ^ 64 - 1))) (calls-one u.run v.run u.outcome v.outcome u.ends v.ends)
         ∙ sym v.named
 
-    pub no_rest-one : (f g : Fault) → HasNoRest m script turns number f → HasNoRest m script turns number g → f ≡ g
+    no_rest-one : (f g : Fault) → HasNoRest m script turns number f → HasNoRest m script turns number g → f ≡ g
     no_rest-one f g (OfCalls u) (OfCalls v) = few-one f g u v
     no_rest-one f g (OfCalls u) (OfLink v) = absurd (unlinked-started m script g u.ends.initial v u.ends.starts)
     no_rest-one f g (OfCalls u) (OfRun v) = absurd (outcome-none m script turns one u.run u.outcome g u.ends v)
@@ -59,7 +61,7 @@ module _ (m : Module) (script : Script) (turns number : ℕ)
     no_rest-one f g (OfWeight u) (OfWeight v) =
         unmade-one m script turns one f g (make.OfWeight u.heavy) (make.OfWeight v.heavy)
 
-    pub call-no_rest : (fault : Fault) → HasCall m script turns number → HasNoRest m script turns number fault → ⊥
+    call-no_rest : (fault : Fault) → HasCall m script turns number → HasNoRest m script turns number fault → ⊥
     call-no_rest fault is (OfLink u) = light-unmade m script turns one fault is.light (make.OfLink u)
     call-no_rest fault is (OfRun u) = light-unmade m script turns one fault is.light (make.OfRun u)
     call-no_rest fault is (OfCalls u) =
@@ -67,7 +69,7 @@ module _ (m : Module) (script : Script) (turns number : ℕ)
     call-no_rest fault is (OfWeight u) = light-unmade m script turns one fault is.light (make.OfWeight u.heavy)
 
     -- a run that is replayed from the call on has the call
-    pub rest-no_rest : RestsAreThere → (printed : List ℕ) (fault : Fault) → IsRestFor m script turns number printed
+    rest-no_rest : RestsAreThere → (printed : List ℕ) (fault : Fault) → IsRestFor m script turns number printed
         → HasNoRest m script turns number fault → ⊥
     rest-no_rest there printed fault is none =
         let parts = is.parts in
@@ -83,9 +85,11 @@ module _ (m : Module) (script : Script) (turns number : ℕ)
           call = (there parts.needed.run.history number 0).below parts.rest parts.is_rest;
         }) none
 
-    pub accepted_answer : {T : Type 0} (r : Result T Fault)
-        → IfErr r (λ f. (f ≡ Memory) ⊎ HasNoRest m script turns number f) → HasCall m script turns number
-        → IfErr r (λ f. f ≡ Memory)
-    accepted_answer (Ok x) cause is = tt
-    accepted_answer (Err f) (inl memory) is = memory
-    accepted_answer (Err f) (inr none) is = absurd (call-no_rest f is none)
+    -- a result with its cause is the answer of a call that prints a replay module
+    pub rest_is : RestsAreThere → {Z : Type 0} (r : Result (Vec ℕ Z) Fault)
+        → IsCaused (IsRestFor m script turns number) (HasNoRest m script turns number) r
+        → IsReplayAnswer (IsRestFor m script turns number) (HasNoRest m script turns number)
+        (HasCall m script turns number) r
+    rest_is there =
+        replay_answer (IsRestFor m script turns number) (HasNoRest m script turns number)
+        (HasCall m script turns number) (rest-no_rest there) (λ is fault. call-no_rest fault is) no_rest-one

@@ -1,5 +1,5 @@
 -- The summary of a run is determined by the run and by the one tape that it needs.
-use Rattle.std.proofs.Common.{◌≡◌, ℕ, List, ◌≤◌, length, ◌∙◌, ap}
+use Rattle.std.proofs.Common.{◌≡◌, ℕ, List, Vec, Result, ◌≤◌, length, ◌∙◌, ap}
 use Rattle.wasm_syntax.specs.declared.limits.TheConstants.{MAX_TAPE_WEIGHT}
 use Rattle.wasm_syntax.specs.declared.modules.Module.{Module}
 use Rattle.host_script.specs.declared.scripts.Script.{Script}
@@ -11,17 +11,19 @@ use Rattle.history_spec.specs.Run.{Run, all_one, program_of, run_from}
 use Rattle.history_spec.specs.Step.{StepResult}
 use Rattle.history_spec.specs.Store.{Store}
 use Rattle.accepted_runs.proofs.OneResult.{run-one}
+use Rattle.r3_faults.specs.Answers.{IsCaused, IsReplayAnswer}
 use Rattle.r3_faults.specs.declared.faults.Fault.{Fault}
+use Rattle.r3_faults.proofs.OneAnswer.{replay_answer}
 use Rattle.r3_make.specs.Refusals.{IsUnmade}
-use Rattle.r3_make.specs.Tapes.{NeedsTape}
-use Rattle.r3_make.proofs.OneAnswer.{light-unmade}
+use Rattle.r3_make.specs.Tapes.{NeedsLightTape, NeedsTape}
+use Rattle.r3_make.proofs.OneAnswer.{light-unmade, unmade-one}
 use Rattle.r3_make.specs.declared.lines.Counts.{Counts}
 use Rattle.r3_make.specs.Summaries.{HasCounts, IsSummaryOf, summary_text}
 
 module _ (m : Module) (script : Script) (turns : ℕ)
     (one : (initial : StepResult) → HasOneResultAtMost (run_from (program_of m script) all_one initial) all_one turns)
   where
-    pub summary-unmade : (printed : List ℕ) (fault : Fault) → IsSummaryOf m script turns printed
+    summary-unmade : (printed : List ℕ) (fault : Fault) → IsSummaryOf m script turns printed
         → IsUnmade m script turns fault → ⊥
     summary-unmade printed fault is unmade =
         light-unmade m script turns one fault
@@ -48,3 +50,11 @@ module _ (m : Module) (script : Script) (turns : ℕ)
               ∙ ap (λ entries. summary_text needed.run.turns entries (length tape.segments) (tape_weight tape))
               (is.entries_are ∙ ap (λ (run : Run). length run.history) same);
         }
+
+    -- a result with its cause is the answer of a call that prints something where there is a replay module
+    pub summary_is : {Z : Type 0} (r : Result (Vec ℕ Z) Fault)
+        → IsCaused (IsSummaryOf m script turns) (IsUnmade m script turns) r
+        → IsReplayAnswer (IsSummaryOf m script turns) (IsUnmade m script turns) (NeedsLightTape m script turns) r
+    summary_is =
+        replay_answer (IsSummaryOf m script turns) (IsUnmade m script turns) (NeedsLightTape m script turns)
+        summary-unmade (λ light fault. light-unmade m script turns one fault light) (unmade-one m script turns one)

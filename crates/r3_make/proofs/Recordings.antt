@@ -1,12 +1,9 @@
 -- The recorded run of an instrumented module, with what it needs.
-use Rattle.std.proofs.Common.{◌≡◌, ℕ, ◌≤◌, ◌^◌, length, Some, Ok, Err, Result, sym, ◌∙◌, ap, subst}
+use Rattle.std.proofs.Common.{◌≡◌, ℕ, ◌≤◌, ◌^◌, length, Some, Ok, sym, ◌∙◌, ap, subst}
 use Rattle.wasm_syntax.specs.declared.modules.Module.{Module}
 use Rattle.wasm_syntax.specs.Index.{all_globals, imported_funcs}
 use Rattle.host_script.specs.declared.scripts.Script.{Script}
-use Rattle.host_script.specs.declared.scripts.LinkFault.{LinkFault}
-use Rattle.host_script.specs.declared.scripts.LinkFault.TheVariants.{Memory, Mismatch, Missing, Segment}
 use Rattle.host_script.specs.Fits.{Fits}
-use Rattle.host_script.specs.Supply.{supply_of}
 use Rattle.history_spec.specs.Instantiation.{instantiate}
 use Rattle.history_spec.specs.Store.{Store}
 use Rattle.type_safety.specs.Stores.{IsStore}
@@ -15,12 +12,11 @@ use Rattle.wasm_flat.specs.Sizes.{IsShort}
 use Rattle.record_replay_spec.specs.HookLaws.{InstrumentedKeepIndices}
 use Rattle.record_replay_spec.specs.Hooks.{renumbered_view}
 use Rattle.record_replay_spec.specs.Instrumented.{instrumented_weights}
-use Rattle.host_link.specs.Link.{link_result, with_supply}
 use Rattle.host_play.specs.HookedResults.{HasHooksAfter}
 use Rattle.tape_laws.specs.CallLaws.{OriginalRun}
 use Rattle.hook_insert.specs.EncodingLaws.{InstrumentedMetersFit}
 use Rattle.instrumented_module_laws.specs.SizeLaws.{InstrumentedAreShort, InstrumentedHaveStores, InstrumentedImportHooks}
-use Rattle.instrumented_module_laws.specs.Links.{InstrumentedAreFitted, InstrumentedAreInstantiated, InstrumentedAreSupplied, renumbered_link, script_with_hooks}
+use Rattle.instrumented_module_laws.specs.Links.{InstrumentedAreFitted, InstrumentedAreInstantiated, renumbered_link, script_with_hooks}
 use Rattle.instrumented_run_laws.specs.Laws.{instrumented_of}
 use Rattle.replay_theorem.specs.RecordLaws.{recorded_run}
 use Rattle.replay_theorem.specs.RecordedOriginalLaws.{record_of}
@@ -43,20 +39,6 @@ recorded_same run turns hooked script store meter imports a b c d e =
     (λ imports. recorded_run (instrumented_of run) (script_with_hooks run.m run.script)
     (renumbered_view (imported_funcs run.m) run.store) (Some (instrumented_weights run.m)) imports turns) e
 
--- ---- a link has one result
-
-linked_or_not : (r : Result Store LinkFault) (a : Store) (fault : LinkFault) → r ≡ Ok a → r ≡ Err fault → ⊥
-linked_or_not r a fault e f = absurd (cc (sym e ∙ f))
-
-pub missing_memory : (import : ℕ) (fault : LinkFault) → fault ≡ Missing import → fault ≡ Memory → ⊥
-missing_memory import fault e f = absurd (cc (sym e ∙ f))
-
-pub mismatch_memory : (import : ℕ) (fault : LinkFault) → fault ≡ Mismatch import → fault ≡ Memory → ⊥
-mismatch_memory import fault e f = absurd (cc (sym e ∙ f))
-
-pub segment_memory : (number : ℕ) (fault : LinkFault) → fault ≡ Segment number → fault ≡ Memory → ⊥
-segment_memory number fault e f = absurd (cc (sym e ∙ f))
-
 -- ---- what holds of the instrumented module of an original
 
 module _ (run : OriginalRun) (is : IsOriginal run) where
@@ -77,28 +59,9 @@ module _ (run : OriginalRun) (is : IsOriginal run) where
   pub script_fits : InstrumentedAreFitted → Fits (instrumented_of run) (script_with_hooks run.m run.script)
   script_fits law = law run.m run.digest run.script run.fits
 
-  pub hooked_supplied : InstrumentedAreSupplied
-      → supply_of (instrumented_of run) (script_with_hooks run.m run.script) ≡ Ok run.supply
-  hooked_supplied law = law run.m run.digest run.script ∙ run.supplied
-
   pub hooked_begins : InstrumentedAreInstantiated
       → instantiate (instrumented_of run) run.supply ≡ Ok (renumbered_view (imported_funcs run.m) run.store)
   hooked_begins law = law run.m run.digest run.supply ∙ ap (renumbered_link (imported_funcs run.m)) run.opens
-
-  pub hooked_links : InstrumentedAreSupplied → InstrumentedAreInstantiated → (hooked : Module) (script : Script)
-      → hooked ≡ instrumented_of run → script ≡ script_with_hooks run.m run.script
-      → link_result hooked script ≡ Ok (renumbered_view (imported_funcs run.m) run.store)
-  hooked_links supplied begins hooked script a b =
-      ap (λ hooked. link_result hooked script) a ∙ ap (link_result (instrumented_of run)) b
-      ∙ ap (with_supply (instrumented_of run)) (hooked_supplied supplied) ∙ hooked_begins begins
-
-  -- linking it fails only if memory is out
-  pub never_unlinked : InstrumentedAreSupplied → InstrumentedAreInstantiated → (hooked : Module) (script : Script)
-      → hooked ≡ instrumented_of run → script ≡ script_with_hooks run.m run.script → (fault : LinkFault)
-      → ((fault ≡ Memory → ⊥) → link_result hooked script ≡ Err fault) → (fault ≡ Memory → ⊥) → ⊥
-  never_unlinked supplied begins hooked script a b fault fails other =
-      linked_or_not (link_result hooked script) (renumbered_view (imported_funcs run.m) run.store) fault
-      (hooked_links supplied begins hooked script a b) (fails other)
 
   pub hooked_store : InstrumentedHaveStores → IsStore run.m run.store
       → IsStore (instrumented_of run) (renumbered_view (imported_funcs run.m) run.store)

@@ -20,7 +20,7 @@ use Rattle.rest_theorem.specs.Cuts.{CutsAreConstant}
 use Rattle.rest_theorem.specs.States.{IsRestOfStates, ReplaysFrom, RestsAreReplayedFromStates, state_at}
 use Rattle.replay_theorem.specs.ConstantLaws.{NeededTapesAreConstant}
 use Rattle.replay_theorem.specs.Laws.{NeededTapesArePlayable}
-use Rattle.r3_make.specs.BuiltReplays.{IsReplayOf}
+use Rattle.replay_laws.specs.EncodedReplays.{IsReplayOf}
 use Rattle.r3_make.specs.RestReplays.{IsRestFor}
 use Rattle.r3_make.specs.StatesAndCuts.{AreStateAndCut}
 use Rattle.r3_make.proofs.Rests.{Given, count, given, replayed, same_known}

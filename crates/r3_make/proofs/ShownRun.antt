@@ -17,7 +17,7 @@ use Rattle.replay_module_laws.specs.Written.{IsConstantTape}
 use Rattle.replay_theorem.specs.Laws.{IsShownByReplay, RunsAreReplayed}
 use Rattle.replay_theorem.specs.ConstantLaws.{NeededTapesAreConstant}
 use Rattle.accepted_runs.proofs.OneResult.{linked-starts}
-use Rattle.r3_make.specs.BuiltReplays.{IsReplayOf}
+use Rattle.replay_laws.specs.EncodedReplays.{IsReplayOf}
 use Rattle.r3_make.specs.Printed.{IsReplayFor}
 use Rattle.r3_make.specs.Tapes.{NeedsTape}
 

@@ -4,9 +4,6 @@ pub mod Records
 pub mod Refusals
 pub mod Printed
 pub mod Summaries
-pub mod BuildRefusals
-pub mod BuiltReplays
-pub mod LogFiles
 pub mod FrozenRuns
 pub mod FrozenTapes
 pub mod TapesAtCalls

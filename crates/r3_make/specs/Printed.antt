@@ -13,7 +13,7 @@ use Rattle.replay_module_spec.specs.Fragments.{start_index}
 use Rattle.replay_module_spec.specs.Merge.{layout_of}
 use Rattle.generated_code_laws.specs.Playable.{replay_of}
 use Rattle.replay_theorem.specs.Laws.{MakesEffectsOf}
-use Rattle.r3_make.specs.BuiltReplays.{IsReplayOf}
+use Rattle.replay_laws.specs.EncodedReplays.{IsReplayOf}
 use Rattle.r3_inputs.specs.Inputs.{AreInputs}
 use Rattle.r3_make.specs.Tapes.{NeedsTape}
 

@@ -12,7 +12,7 @@ use Rattle.replay_module_spec.specs.Merge.{layout_of}
 use Rattle.replay_module_laws.specs.Standing.{KeepsOriginals}
 use Rattle.generated_code_laws.specs.Playable.{replay_of}
 use Rattle.r3_inputs.specs.Inputs.{AreInputs}
-use Rattle.r3_make.specs.BuiltReplays.{IsReplayOf}
+use Rattle.replay_laws.specs.EncodedReplays.{IsReplayOf}
 use Rattle.r3_make.specs.StatesAndCuts.{AreStateAndCut}
 
 -- The run of the module under the script has an outcome within the turns, and a top-level call of this number. The

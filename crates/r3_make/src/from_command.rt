@@ -1,9 +1,8 @@
 // `from`: a replay module of a run from a top-level call on.
 
-ghost use Rattle.std.specs.Prelude.{◌≡◌, ◌≤◌, ◌⊎◌, Err, IfErr, IfOk, length};
+ghost use Rattle.std.specs.Prelude.{◌≤◌, length};
 ghost use Rattle.wasm_syntax.specs.declared.limits.TheConstants.{MAX_FILE_BYTES, MAX_TURNS};
-ghost use Rattle.r3_faults.specs.declared.faults.Fault.{Fault};
-ghost use Rattle.r3_faults.specs.declared.faults.Fault.TheVariants.{Memory};
+ghost use Rattle.r3_faults.specs.Answers.{IsReplayAnswer};
 ghost use Rattle.r3_make.specs.RestRefusals.{HaveRest, IsRestRefusal};
 ghost use Rattle.r3_make.specs.RestReplays.{IsRestPrinted};
 
@@ -35,13 +34,9 @@ pub fn from_call(
 ) -> Result<Vec<u8>, Fault>
     requires small { length «module».now ≤ MAX_FILE_BYTES }
     requires few { turns ≤ MAX_TURNS }
-    ensures cause { IfErr result
-        (λ fault. (fault ≡ Memory) ⊎ IsRestRefusal «module».now script.now turns number fault) }
-    ensures refused { (fault : Fault) → IsRestRefusal «module».now script.now turns number fault
-        → (result ≡ Err fault) ⊎ (result ≡ Err Memory) }
-    ensures printed { IfOk result (λ bytes. IsRestPrinted «module».now script.now turns number bytes.items) }
-    ensures accepted { HaveRest «module».now script.now turns number → IfErr result (λ fault. fault ≡ Memory) }
+    ensures { IsReplayAnswer (IsRestPrinted «module».now script.now turns number)
+        (IsRestRefusal «module».now script.now turns number) (HaveRest «module».now script.now turns number) result }
 {
     let (checked, script) = inputs_of(alloc, module, script)?;
-    rest_replay_of(alloc, module, checked, script, turns, number)
+    rest_replay_of(alloc, checked, script, turns, number)
 }

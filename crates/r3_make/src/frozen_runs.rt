@@ -1,18 +1,14 @@
 // The run of an instrumented module, recorded into a reducer, with what is known before a top-level call frozen.
 
 ghost use Rattle.std.specs.Prelude.{◌≡◌, ◌<◌, ◌^◌, ℕ, IfOk};
-ghost use Rattle.wasm_flat.specs.Bounds.{IsBound};
-ghost use Rattle.wasm_flat.specs.FlatCode.{flat_of};
-ghost use Rattle.record_replay_spec.specs.Hooks.{renumbered_view};
-ghost use Rattle.wasm_syntax.specs.Index.{imported_funcs};
 ghost use Rattle.host_script.specs.declared.scripts.Supply.{Supply as Supplied};
 ghost use Rattle.tape_laws.specs.CallLaws.{OriginalRun};
 ghost use Rattle.run_recorder.specs.Records.{RecordedRun};
 ghost use Rattle.replay_theorem.specs.RecordedOriginalLaws.{record_of};
-ghost use Rattle.r3_make.specs.Records.{IsRecordable};
+ghost use Rattle.r3_make.specs.Records.{IsHookedPlay, IsRecordable};
 ghost use Rattle.r3_make.specs.FrozenRuns.{IsFrozenBy, IsFrozenRecord, IsNewFreezer};
 
-use crate::recorded_runs::{HookedInputs, hooked_play};
+use crate::recorded_runs::HookedInputs;
 use base::NoMemory;
 use checkpoint::{Freezer, runs_are_frozen};
 use history_spec::Outcome;
@@ -40,7 +36,8 @@ pub(crate) struct FrozenRun {
     pub(crate) frozen: Option<Frozen>,
 }
 
-/// Records the run within a number of turns, and freezes what is known before the top-level call of a number.
+/// Records the run within a number of turns from the instantiation of the instrumented module on, and freezes what is
+/// known before the top-level call of a number.
 ///
 /// # Errors
 /// `Fault` if the host cannot do what the script says, `Spent` if the run needs more turns. `Memory` if memory is out.
@@ -48,15 +45,17 @@ pub(crate) fn frozen_run(
     alloc: Global,
     inputs: &HookedInputs,
     supply: &Supply,
+    play: Play,
     turns: u64,
     number: u32,
 ) -> Result<FrozenRun, PlayFault>
-    requires { (run : OriginalRun) × IsRecordable run inputs.now supply.now }
+    requires { (run : OriginalRun) × IsRecordable run inputs.now supply.now
+        × IsHookedPlay run.m run.store inputs.now play }
     ensures { (run : OriginalRun) → IsRecordable run inputs.now supply.now
+        → IsHookedPlay run.m run.store inputs.now play.entry
         → IsFrozenRecord (record_of run turns) number result }
 {
     let freezer = new_freezer(alloc, inputs, supply, number)?;
-    let play = hooked_play(alloc, inputs, supply)?;
     play_frozen(alloc, inputs, play, turns, freezer)
 }
 
@@ -82,7 +81,7 @@ fn new_freezer(
     Ok(Freezer::new(recorder, number))
 }
 
-/// Records the run from the instantiation of the instrumented module on.
+/// Records the run with a freezer.
 fn play_frozen(
     alloc: Global,
     inputs: &HookedInputs,
@@ -90,14 +89,10 @@ fn play_frozen(
     turns: u64,
     mut freezer: Freezer<Reducer>,
 ) -> Result<FrozenRun, PlayFault>
-    requires recordable { (run : OriginalRun) × (supply : Supplied) × IsRecordable run inputs.now supply
-        × (play.store ≡ renumbered_view (imported_funcs run.m) run.store) }
-    requires code { play.code.now ≡ inputs.now.hooked }
-    requires script { play.script.now ≡ inputs.now.script }
-    requires flat { play.flat ≡ flat_of inputs.now.hooked }
-    requires bound { IsBound play.flat }
+    requires { (run : OriginalRun) × (supply : Supplied) × IsRecordable run inputs.now supply
+        × IsHookedPlay run.m run.store inputs.now play }
     ensures { (run : OriginalRun) (supply : Supplied) (number : ℕ) → number < 2 ^ 32
-        → IsRecordable run inputs.now supply → play.entry.store ≡ renumbered_view (imported_funcs run.m) run.store
+        → IsRecordable run inputs.now supply → IsHookedPlay run.m run.store inputs.now play.entry
         → IsNewFreezer (record_of run turns) number freezer
         → IsFrozenRecord (record_of run turns) number result }
 {

@@ -5,10 +5,9 @@ ghost use Rattle.wasm_syntax.specs.declared.limits.TheConstants.{MAX_TAPE_WEIGHT
 ghost use Rattle.trace_model.specs.declared.events.Event.{Event};
 ghost use Rattle.trace_reduce.specs.Reducer.{HasTaken, imports_of, most_of};
 ghost use Rattle.tape_laws.specs.CallLaws.{OriginalRun};
-ghost use Rattle.accepted_runs.specs.Linked.{IsLinked};
 ghost use Rattle.r3_faults.specs.declared.faults.Fault.TheVariants.{Memory, NoCall};
 ghost use Rattle.r3_make.specs.Answers.{HasTakenBalanced};
-ghost use Rattle.r3_make.specs.Records.{IsRecordable};
+ghost use Rattle.r3_make.specs.Records.{IsHookedPlay, IsRecordable};
 ghost use Rattle.r3_make.specs.FrozenTapes.{IsFrozenTape};
 ghost use Rattle.r3_make.specs.RestRefusals.{HasNoRest};
 ghost use Rattle.r3_make.specs.TapesAtCalls.{IsTapeAt};
@@ -16,8 +15,9 @@ ghost use Rattle.r3_make.specs.TapesAtCalls.{IsTapeAt};
 use crate::frozen_runs::{FrozenRun, frozen_run};
 use crate::recorded_runs::HookedInputs;
 use crate::tapes::tape_of;
+use accepted_runs::run_fault;
 use hook_insert::instrumented_meters_fit;
-use host_play::PlayFault;
+use host_play::Play;
 use host_script::Supply;
 use instrumented_run_laws::instrumented_runs_follow;
 use r3_faults::Fault;
@@ -42,16 +42,17 @@ pub(crate) fn frozen_tape(
     alloc: Global,
     inputs: &HookedInputs,
     supply: &Supply,
+    play: Play,
     turns: u64,
     number: u32,
 ) -> Result<(Tape, Frozen), Fault>
     requires { (run : OriginalRun) × IsRecordable run inputs.now supply.now
-        × IsLinked run.m run.script run.supply run.store }
+        × IsHookedPlay run.m run.store inputs.now play }
     ensures frozen { (run : OriginalRun) → IsRecordable run inputs.now supply.now
-        → IsLinked run.m run.script run.supply run.store
+        → IsHookedPlay run.m run.store inputs.now play.entry
         → IfOk result (λ found. IsFrozenTape run turns number found.0 found.1) }
     ensures cause { (run : OriginalRun) → IsRecordable run inputs.now supply.now
-        → IsLinked run.m run.script run.supply run.store
+        → IsHookedPlay run.m run.store inputs.now play.entry
         → IfErr result (λ fault. (fault ≡ Memory) ⊎ HasNoRest run.m run.script turns number fault) }
 {
     records_report_originals();
@@ -63,12 +64,9 @@ pub(crate) fn frozen_tape(
     logs_know_what_is_known();
     rests_are_there();
     top_calls_are_reported();
-    match frozen_run(alloc, inputs, supply, turns, number) {
+    match frozen_run(alloc, inputs, supply, play, turns, number) {
         Ok(played) => tape_at(played, inputs.imports, number),
-        Err(PlayFault::Fault { turn, kind }) => Err(Fault::Script { turn, kind }),
-        Err(PlayFault::Spent) => Err(Fault::Spent { turns }),
-        Err(PlayFault::Hook { .. }) => unreachable!(),
-        Err(PlayFault::Memory) => Err(Fault::Memory),
+        Err(fault) => Err(run_fault(fault, turns)),
     }
 }
 

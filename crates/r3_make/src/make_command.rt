@@ -1,9 +1,8 @@
 // `make`: a replay module of a run.
 
-ghost use Rattle.std.specs.Prelude.{◌≡◌, ◌≤◌, ◌⊎◌, Err, IfErr, IfOk, length};
+ghost use Rattle.std.specs.Prelude.{◌≤◌, length};
 ghost use Rattle.wasm_syntax.specs.declared.limits.TheConstants.{MAX_FILE_BYTES, MAX_TURNS};
-ghost use Rattle.r3_faults.specs.declared.faults.Fault.{Fault};
-ghost use Rattle.r3_faults.specs.declared.faults.Fault.TheVariants.{Memory};
+ghost use Rattle.r3_faults.specs.Answers.{IsReplayAnswer};
 ghost use Rattle.r3_make.specs.Refusals.{AreReplayable, IsMakeRefusal};
 ghost use Rattle.r3_make.specs.Printed.{IsPrinted};
 
@@ -23,12 +22,9 @@ use std::alloc::Global;
 pub fn make(alloc: Global, module: &[u8], script: &[u8], turns: u64) -> Result<Vec<u8>, Fault>
     requires small { length «module».now ≤ MAX_FILE_BYTES }
     requires few { turns ≤ MAX_TURNS }
-    ensures cause { IfErr result (λ fault. (fault ≡ Memory) ⊎ IsMakeRefusal «module».now script.now turns fault) }
-    ensures refused { (fault : Fault) → IsMakeRefusal «module».now script.now turns fault
-        → (result ≡ Err fault) ⊎ (result ≡ Err Memory) }
-    ensures printed { IfOk result (λ bytes. IsPrinted «module».now script.now turns bytes.items) }
-    ensures accepted { AreReplayable «module».now script.now turns → IfErr result (λ fault. fault ≡ Memory) }
+    ensures { IsReplayAnswer (IsPrinted «module».now script.now turns) (IsMakeRefusal «module».now script.now turns)
+        (AreReplayable «module».now script.now turns) result }
 {
     let (checked, script) = inputs_of(alloc, module, script)?;
-    replay_of(alloc, module, checked, script, turns)
+    replay_of(alloc, checked, script, turns)
 }

@@ -1,33 +1,26 @@
 // The replay module of a run from a top-level call on, in its binary format.
 
-ghost use Rattle.std.specs.Prelude.{◌≡◌, ◌≤◌, ◌⊎◌, Err, IfErr, IfOk, length};
-ghost use Rattle.wasm_syntax.specs.declared.limits.TheConstants.{MAX_ORIGINAL_BYTES};
-ghost use Rattle.wasm_syntax.specs.ListsWithin.{HasListsWithin};
-ghost use Rattle.type_safety.specs.Supplies.{HasBytes};
 ghost use Rattle.accepted_runs.specs.Runnable.{CanRun};
-ghost use Rattle.r3_inputs.specs.Inputs.{IsModuleOf};
-ghost use Rattle.r3_faults.specs.declared.faults.Fault.{Fault};
-ghost use Rattle.r3_faults.specs.declared.faults.Fault.TheVariants.{Memory};
+ghost use Rattle.r3_faults.specs.Answers.{IsCaused, IsReplayAnswer};
+ghost use Rattle.r3_make.specs.Records.{IsOriginalModule};
 ghost use Rattle.r3_make.specs.RestRefusals.{HasCall, HasNoRest};
 ghost use Rattle.r3_make.specs.RestReplays.{IsRestFor};
 
-use crate::built_replays::{encoded_replay, know_maximum};
 use crate::states_and_cuts::{StateAndCut, state_and_cut};
-use accepted_runs::supply_that_links;
 use history_spec::runs_have_one_result_at_most;
 use host_script::Script;
 use instrumented_module_laws::encoded_have_words;
 use r3_faults::Fault;
+use replay_laws::encoded_replay;
 use replay_theorem::{needed_tapes_are_constant, needed_tapes_are_playable};
 use rest_laws::{cuts_are_light, cuts_fit, rests_are_there};
 use rest_theorem::{cuts_are_constant, rests_are_replayed_from_states};
 use state_laws::state_modules_can_be_replayed;
 use std::alloc::Global;
-use type_safety::typed_store;
 use wasm_validate::Checked;
 
 /// The replay module of the run of an accepted module under a script that fits it, within a number of turns, from the
-/// top-level call of a number on, in its binary format; at most `MAX_ORIGINAL_BYTES` bytes encode the module.
+/// top-level call of a number on, in its binary format; some bytes encode the module, at most `MAX_ORIGINAL_BYTES`.
 ///
 /// # Errors
 ///
@@ -36,44 +29,32 @@ use wasm_validate::Checked;
 /// if and only if it is the first cause that applies. `Memory` if memory is out.
 pub(crate) fn rest_replay_of(
     alloc: Global,
-    bytes: &[u8],
     checked: Checked,
     script: Script,
     turns: u64,
     number: u32,
 ) -> Result<Vec<u8>, Fault>
-    requires is_module { IsModuleOf bytes.now checked }
-    requires small { length bytes.now ≤ MAX_ORIGINAL_BYTES }
-    requires within { HasListsWithin (length bytes.now) checked }
+    requires original { IsOriginalModule checked }
     requires runnable { CanRun checked script }
-    requires bytes { HasBytes checked }
-    ensures cause { IfErr result (λ fault. (fault ≡ Memory) ⊎ HasNoRest checked script turns number fault) }
-    ensures refused { (fault : Fault) → HasNoRest checked script turns number fault
-        → (result ≡ Err fault) ⊎ (result ≡ Err Memory) }
-    ensures printed { IfOk result (λ printed. IsRestFor checked script turns number printed.items) }
-    ensures accepted { HasCall checked script turns number → IfErr result (λ fault. fault ≡ Memory) }
+    ensures { IsReplayAnswer (IsRestFor checked script turns number) (HasNoRest checked script turns number)
+        (HasCall checked script turns number) result }
 {
     runs_have_one_result_at_most();
     rests_are_there();
-    made_rest(alloc, bytes, checked, script, turns, number)
+    made_rest(alloc, checked, script, turns, number)
 }
 
 /// The bytes of the replay module of a run from a call on, or a fault with its cause.
 fn made_rest(
     alloc: Global,
-    bytes: &[u8],
     checked: Checked,
     script: Script,
     turns: u64,
     number: u32,
 ) -> Result<Vec<u8>, Fault>
-    requires is_module { IsModuleOf bytes.now checked }
-    requires small { length bytes.now ≤ MAX_ORIGINAL_BYTES }
-    requires within { HasListsWithin (length bytes.now) checked }
+    requires original { IsOriginalModule checked }
     requires runnable { CanRun checked script }
-    requires bytes { HasBytes checked }
-    ensures cause { IfErr result (λ fault. (fault ≡ Memory) ⊎ HasNoRest checked script turns number fault) }
-    ensures printed { IfOk result (λ printed. IsRestFor checked script turns number printed.items) }
+    ensures { IsCaused (IsRestFor checked script turns number) (HasNoRest checked script turns number) result }
 {
     cuts_are_constant();
     cuts_are_light();
@@ -83,15 +64,12 @@ fn made_rest(
     needed_tapes_are_playable();
     rests_are_replayed_from_states();
     state_modules_can_be_replayed();
-    typed_store();
-    let _valid = checked.module();
-    let supply = supply_that_links(alloc, &checked, &script)?;
-    know_maximum(supply.table);
-    let parts = state_and_cut(alloc, bytes, &checked, &supply, script, turns, number)?;
+    let parts = state_and_cut(alloc, &checked, script, turns, number)?;
     let StateAndCut {
         module,
         supply,
         cut,
     } = parts;
-    encoded_replay(alloc, module, &supply, cut)
+    let printed = encoded_replay(alloc, module, &supply, cut)?;
+    Ok(printed)
 }

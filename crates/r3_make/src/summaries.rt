@@ -1,11 +1,10 @@
 // `load`: the summary of a load.
 
-ghost use Rattle.std.specs.Prelude.{◌≡◌, ◌≤◌, ◌⊎◌, Err, IfErr, IfOk, length};
+ghost use Rattle.std.specs.Prelude.{◌≤◌, length};
 ghost use Rattle.wasm_syntax.specs.declared.limits.TheConstants.{LOAD_TURNS, MAX_LOAD_CALLS, MAX_FILE_BYTES};
 ghost use Rattle.load_maker.specs.Loads.{load_script};
 ghost use Rattle.load_maker.specs.declared.load_module.TheConstants.{LOAD_MODULE};
-ghost use Rattle.r3_faults.specs.declared.faults.Fault.{Fault};
-ghost use Rattle.r3_faults.specs.declared.faults.Fault.TheVariants.{Memory};
+ghost use Rattle.r3_faults.specs.Answers.{IsReplayAnswer};
 ghost use Rattle.r3_make.specs.Refusals.{AreReplayable, IsMakeRefusal};
 ghost use Rattle.r3_make.specs.Summaries.{IsSummary, IsSummaryFor};
 
@@ -24,13 +23,8 @@ use wasm_syntax::limits::LOAD_TURNS;
 /// The faults of `make` with the module and the script of the load and `LOAD_TURNS`. `Memory` if memory is out.
 pub fn load_summary(alloc: Global, number: u32) -> Result<Vec<u8>, Fault>
     requires { number ≤ MAX_LOAD_CALLS }
-    ensures cause { IfErr result (λ fault.
-        (fault ≡ Memory) ⊎ IsMakeRefusal LOAD_MODULE (load_script number) LOAD_TURNS fault) }
-    ensures refused { (fault : Fault) → IsMakeRefusal LOAD_MODULE (load_script number) LOAD_TURNS fault
-        → (result ≡ Err fault) ⊎ (result ≡ Err Memory) }
-    ensures printed { IfOk result (λ bytes. IsSummary number bytes.items) }
-    ensures accepted { AreReplayable LOAD_MODULE (load_script number) LOAD_TURNS
-        → IfErr result (λ fault. fault ≡ Memory) }
+    ensures { IsReplayAnswer (IsSummary number) (IsMakeRefusal LOAD_MODULE (load_script number) LOAD_TURNS)
+        (AreReplayable LOAD_MODULE (load_script number) LOAD_TURNS) result }
 {
     let (module, script) = make_load(alloc, number)?;
     summary_of(alloc, &module, &script, LOAD_TURNS)
@@ -39,12 +33,9 @@ pub fn load_summary(alloc: Global, number: u32) -> Result<Vec<u8>, Fault>
 /// The summary of the run of a module under a script, from the bytes of both.
 fn summary_of(alloc: Global, module: &[u8], script: &[u8], turns: u64) -> Result<Vec<u8>, Fault>
     requires { length «module».now ≤ MAX_FILE_BYTES }
-    ensures cause { IfErr result (λ fault. (fault ≡ Memory) ⊎ IsMakeRefusal «module».now script.now turns fault) }
-    ensures refused { (fault : Fault) → IsMakeRefusal «module».now script.now turns fault
-        → (result ≡ Err fault) ⊎ (result ≡ Err Memory) }
-    ensures printed { IfOk result (λ bytes. IsSummaryFor «module».now script.now turns bytes.items) }
-    ensures accepted { AreReplayable «module».now script.now turns → IfErr result (λ fault. fault ≡ Memory) }
+    ensures { IsReplayAnswer (IsSummaryFor «module».now script.now turns)
+        (IsMakeRefusal «module».now script.now turns) (AreReplayable «module».now script.now turns) result }
 {
     let (original, script) = inputs_of(alloc, module, script)?;
-    lines_of(alloc, module, &original, script, turns)
+    lines_of(alloc, &original, script, turns)
 }

@@ -1,3 +1,2 @@
-mod OneAnswer
+pub mod OneAnswer
 pub mod FaultCases
-mod ModuleAnswers

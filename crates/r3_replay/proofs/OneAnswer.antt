@@ -85,7 +85,7 @@ module _ (m : Module) (turns : ℕ) (layout-one : (a b : Layout) → HasLayout m
   -- ---- the lines
 
   -- runs from two starts that are equal
-  result-one : (a b : ℕ) (i j : StepResult) (x y : budget.RunResult) → HasEntry m a → HasEntry m b → run_start_alone m a ≡ Ok i → run_start_alone m b ≡ Ok j
+  pub result-one : (a b : ℕ) (i j : StepResult) (x y : budget.RunResult) → HasEntry m a → HasEntry m b → run_start_alone m a ≡ Ok i → run_start_alone m b ≡ Ok j
       → IsResult (run_from (program_alone m) instructions i) instructions turns x
       → IsResult (run_from (program_alone m) instructions j) instructions turns y → x ≡ y
   result-one a b i j x y p q e f is is_too =
@@ -116,7 +116,7 @@ module _ (m : Module) (turns : ℕ) (layout-one : (a b : Layout) → HasLayout m
       in
       x.text ∙ ap (λ (shown : Projection). history_text shown.history shown.outcome) shown ∙ sym y.text
 
-  text-one : (a b : List ℕ) → HasReplayText m turns a → HasReplayText m turns b → a ≡ b
+  pub text-one : (a b : List ℕ) → HasReplayText m turns a → HasReplayText m turns b → a ≡ b
   text-one a b x y = x.lines ∙ printed-one x.printed y.printed x.prints y.prints ∙ sym y.lines
 
   text-none : (text : List ℕ) (fault : Fault) → HasReplayText m turns text → HasNoReplayText m turns fault → ⊥

@@ -1,4 +1,4 @@
 mod Widths
-mod Blocks
-mod Groups
+pub mod Blocks
+pub mod Groups
 mod Marks

@@ -57,7 +57,11 @@ fn push_call_arms(
 }
 
 /// The body of the function in an import's place; the functions of its groups have the indices from `first` on.
-pub(crate) fn import_body(
+///
+/// # Errors
+///
+/// `NoMemory` if memory is out.
+pub fn import_body(
     alloc: Global,
     counter: u32,
     local: u32,

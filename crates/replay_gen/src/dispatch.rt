@@ -19,7 +19,11 @@ const AFTER_ARMS: usize = 3;
 
 /// Appends the code before `count` arms: the arm is selected by a local and an operation with the size of a
 /// group.
-pub(crate) fn push_dispatch_start(
+///
+/// # Errors
+///
+/// `NoMemory` if memory is out.
+pub fn push_dispatch_start(
     alloc: Global,
     code: &mut Vec<Instr>,
     local: u32,
@@ -67,7 +71,11 @@ fn labels(alloc: Global, count: u32) -> Result<Labels, NoMemory>
 }
 
 /// Appends the code after the last arm, with the end of the body.
-pub(crate) fn push_dispatch_end(code: &mut Vec<Instr>) -> Result<(), NoMemory>
+///
+/// # Errors
+///
+/// `NoMemory` if memory is out.
+pub fn push_dispatch_end(code: &mut Vec<Instr>) -> Result<(), NoMemory>
     ensures { OnOk result (code.new.items ≡ code.old.items ++ End ∷ Unreachable ∷ End ∷ []) }
 {
     code.reserve(AFTER_ARMS)?;

@@ -48,7 +48,7 @@ pub(crate) fn push_import_funcs(
 }
 
 /// The number of groups that `count` calls make.
-fn group_count(count: usize) -> u32
+pub fn group_count(count: usize) -> u32
     requires { group_count count < 2 ^ 32 }
     ensures { result ≡ group_count count }
 {
@@ -102,12 +102,12 @@ fn push_groups(
 }
 
 /// The group of this number.
-fn group(calls: &[Segments], number: u32) -> &[Segments]
-    requires { number < group_count (length calls.now) }
-    ensures group { result.now ≡ take SIZE (drop (SIZE * number) calls.now) }
+pub fn group<T>(items: &[T], number: u32) -> &[T]
+    requires { number < group_count (length items.now) }
+    ensures group { result.now ≡ take SIZE (drop (SIZE * number) items.now) }
     ensures few { length result.now < 2 ^ 32 }
 {
     let size = GROUP_CALLS as usize;
-    let rest = &calls[size * number as usize..];
+    let rest = &items[size * number as usize..];
     &rest[..size.min(rest.len())]
 }

@@ -13,5 +13,10 @@ mod segments;
 mod stores;
 
 pub use base::NoMemory;
+pub use bodies::import_body;
+pub use dispatch::{push_dispatch_end, push_dispatch_start};
 pub use fragments::generate;
+pub use imports::{group, group_count};
+pub use parts::{counter, one_type, push_group_type};
+pub use references::mark;
 pub use replay_module_spec::Fragment;

@@ -29,7 +29,15 @@ pub(crate) fn appended_types(alloc: Global) -> Result<FuncTypes, NoMemory>
 }
 
 /// Appends the type of a function that takes the number of a call and returns a value of this type.
-fn push_group_type(alloc: Global, types: &mut Vec<FuncType>, value: ValType) -> Result<(), NoMemory>
+///
+/// # Errors
+///
+/// `NoMemory` if memory is out.
+pub fn push_group_type(
+    alloc: Global,
+    types: &mut Vec<FuncType>,
+    value: ValType,
+) -> Result<(), NoMemory>
     ensures { OnOk result (types.new.items ≡ types.old.items ++ group_type (value ∷ []) ∷ []) }
 {
     let results = one_type(alloc, value)?;
@@ -48,7 +56,11 @@ fn group_type(alloc: Global, results: ValTypes) -> Result<FuncType, NoMemory>
 }
 
 /// A list of one type.
-fn one_type(alloc: Global, ty: ValType) -> Result<ValTypes, NoMemory>
+///
+/// # Errors
+///
+/// `NoMemory` if memory is out.
+pub fn one_type(alloc: Global, ty: ValType) -> Result<ValTypes, NoMemory>
     ensures { IfOk result (λ types. types ≡ ty ∷ []) }
 {
     let mut types = Vec::with_capacity(alloc, 1)?;
@@ -68,7 +80,11 @@ pub(crate) fn counters(alloc: Global, count: usize) -> Result<Globals, NoMemory>
 }
 
 /// A global that begins at 0.
-fn counter(alloc: Global) -> Result<Counter, NoMemory>
+///
+/// # Errors
+///
+/// `NoMemory` if memory is out.
+pub fn counter(alloc: Global) -> Result<Counter, NoMemory>
     ensures { IfOk result (λ global. global ≡ counter) }
 {
     let mut init = Vec::with_capacity(alloc, 2)?;

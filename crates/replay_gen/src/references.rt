@@ -69,7 +69,7 @@ fn mark_instr(marks: &mut Vec<bool>, instr: &Instr)
 }
 
 /// Marks a function, if its index is in the list.
-fn mark(marks: &mut Vec<bool>, func: u32)
+pub fn mark(marks: &mut Vec<bool>, func: u32)
     ensures { MarksMore marks.old.items marks.new.items (func ∷ []) }
 {
     let func = func as usize;

@@ -1,2 +1,4 @@
 mod TapesOfRuns
 mod PlannedBinaries
+mod Sized
+mod Playable

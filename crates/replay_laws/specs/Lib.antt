@@ -1,3 +1,4 @@
 pub mod Follows
 pub mod Stands
 pub mod Tapes
+pub mod EncodedReplays

@@ -4,14 +4,14 @@ mod ValidOutside
 pub mod Declarations
 pub mod Originals
 pub mod TypedOriginals
-mod Serving
+pub mod Serving
 pub mod TypedEffects
 pub mod TypedSegments
-mod TypedDispatch
-mod Generated
+pub mod TypedDispatch
+pub mod Generated
 mod TypedGenerated
 pub mod FittingPlans
-mod Bodies
+pub mod Bodies
 pub mod Functions
 mod Openings
 pub mod References

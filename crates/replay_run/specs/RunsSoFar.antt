@@ -190,12 +190,16 @@ abbrev pub IsOver : CallStand → Type 0
 IsOver at.Instruction = ⊥
 IsOver stand = Unit {0}
 
--- where a call is after a part of the run, by the pause that ended the part and its entries; the pause is not an
--- import's, since the module has no imports, and not one for want of turns
+-- where a call is after a part of the run, by the pause that ended the part, and the outcome of a trap; the pause is
+-- not an import's, since the module has no imports, and not one for want of turns
+abbrev pub stand_at : Option Pause → Outcome → CallStand
+stand_at (Some pause.Returned) outcome = at.Returned
+stand_at (Some pause.Trapped) outcome = at.Trapped outcome
+stand_at end outcome = at.Instruction
+
+-- where a call is after a part of the run, by the pause that ended the part and its entries
 abbrev pub stand_of : Layout → Option Pause → List Entry → CallStand
-stand_of layout (Some pause.Returned) entries = at.Returned
-stand_of layout (Some pause.Trapped) entries = at.Trapped (trap_outcome layout entries)
-stand_of layout end entries = at.Instruction
+stand_of layout end entries = stand_at end (trap_outcome layout entries)
 
 abbrev pub IsOwnPause : Option Pause → Type 0
 IsOwnPause (Some (pause.Import index)) = ⊥

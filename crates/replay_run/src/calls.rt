@@ -2,16 +2,17 @@
 
 ghost use Rattle.std.specs.Prelude.{◌≡◌, ◌≤◌, ◌<◌, [], Ok, IfOk, OnOk};
 ghost use Rattle.shown_lines.specs.ShownLines.{Shows};
-ghost use Rattle.replay_run.specs.RunsSoFar.{BeginsCall, GoesFrom, IsCalled, IsOutside, IsOver, IsOwnPause, IsShown, MakesStep, stand_of, WalksOutside};
+ghost use Rattle.wasm_interp.specs.InstrEntries.{entries_of};
+ghost use Rattle.replay_run.specs.RunsSoFar.{BeginsCall, GoesFrom, IsCalled, IsOutside, IsOver, IsOwnPause, IsShown, MakesStep, stand_at, stand_of, WalksOutside};
 
 use crate::results::ReplayFault;
 use base::NoMemory;
 use history_spec::{Entry, Outcome};
 use replay_form::Side;
 use replay_run_spec::projections_run_along;
-use shown_lines::{ShownText, trap_outcome};
+use shown_lines::{ShownText, trap_outcome, trap_outcome_of_turn};
 use std::alloc::Global;
-use wasm_interp::{Machine, Pause, Turn, calls_are_ready};
+use wasm_interp::{Machine, Pause, Turn, TurnEntries, calls_are_ready};
 use wasm_syntax::List;
 
 /// Where a call by the host is.
@@ -25,31 +26,44 @@ pub(crate) enum CallStand {
     Trapped { outcome: Outcome },
 }
 
-/// Where a call is after a part of the run.
-fn stand_of(shown: &ShownText, turn: &Turn) -> CallStand
-    requires { IsOwnPause turn.now.pause }
-    ensures { result ≡ stand_of shown.now.layout turn.now.pause turn.now.entries }
+/// Where a call is after a part of the run, by the pause that ended it; `outcome` is that of a trap.
+fn stand_at(pause: Option<Pause>, outcome: Outcome) -> CallStand
+    requires { IsOwnPause pause }
+    ensures { result ≡ stand_at pause outcome }
 {
-    match turn.pause {
+    match pause {
         None => CallStand::Instruction,
         Some(pause) => match pause {
             Pause::Returned => CallStand::Returned,
-            Pause::Trapped => CallStand::Trapped {
-                outcome: trap_outcome(shown.layout(), turn.entries.as_slice()),
-            },
+            Pause::Trapped => CallStand::Trapped { outcome },
             Pause::Import { .. } | Pause::Spent => unreachable!(),
         },
     }
 }
 
 /// Writes the lines of a part of the run, and returns where the call is after it.
-fn show_turn(shown: &mut ShownText, turn: &Turn) -> Result<CallStand, NoMemory>
+fn show_part(shown: &mut ShownText, turn: &Turn) -> Result<CallStand, NoMemory>
     requires { IsOwnPause turn.now.pause }
     ensures shows { OnOk result (Shows shown.old shown.new [] turn.now.entries) }
     ensures stands { IfOk result (λ stand. stand ≡ stand_of shown.old.layout turn.now.pause turn.now.entries) }
 {
-    shown.show_all(turn.entries.as_slice())?;
-    Ok(stand_of(shown, turn))
+    let entries = turn.entries.as_slice();
+    shown.show_all(entries)?;
+    Ok(stand_at(turn.pause, trap_outcome(shown.layout(), entries)))
+}
+
+/// Writes the lines of an instruction's turn, which ended with a pause, and returns where the call is after it.
+fn show_turn(
+    shown: &mut ShownText,
+    turn: &TurnEntries,
+    pause: Option<Pause>,
+) -> Result<CallStand, NoMemory>
+    requires { IsOwnPause pause }
+    ensures shows { OnOk result (Shows shown.old shown.new [] (entries_of turn.now)) }
+    ensures stands { IfOk result (λ stand. stand ≡ stand_of shown.old.layout pause (entries_of turn.now)) }
+{
+    shown.show_turn(turn)?;
+    Ok(stand_at(pause, trap_outcome_of_turn(shown.layout(), turn)))
 }
 
 /// Begins a call by the host of a function without parameters.
@@ -72,19 +86,23 @@ pub(crate) fn begin_call(
     };
     shown.show_all(&[call])?;
     let turn = machine.settle()?;
-    let stand = show_turn(shown, &turn)?;
+    let stand = show_part(shown, &turn)?;
     Ok(stand)
 }
 
-/// Executes the next instruction.
-fn make_step(shown: &mut ShownText, machine: &mut Machine) -> Result<CallStand, NoMemory>
+/// Executes the next instruction, with its entries in room that is used again.
+fn make_step(
+    shown: &mut ShownText,
+    machine: &mut Machine,
+    turn: &mut TurnEntries,
+) -> Result<CallStand, NoMemory>
     requires { IsShown CallStand.Instruction shown.old machine.old }
     ensures makes { IfOk result (λ stand. MakesStep shown.old machine.old stand shown.new machine.new) }
     ensures layout { OnOk result (shown.new.layout ≡ shown.old.layout) }
 {
     calls_are_ready();
-    let turn = machine.turn()?;
-    let stand = show_turn(shown, &turn)?;
+    let pause = machine.turn_into(turn)?;
+    let stand = show_turn(shown, turn, pause)?;
     Ok(stand)
 }
 
@@ -104,7 +122,7 @@ fn walk_outside(
     calls_are_ready();
     projections_run_along();
     let turn = machine.walk(left)?;
-    let stand = show_turn(shown, &turn)?;
+    let stand = show_part(shown, &turn)?;
     Ok(stand)
 }
 
@@ -136,6 +154,7 @@ fn go_outside(
 fn go_on(
     shown: &mut ShownText,
     machine: &mut Machine,
+    turn: &mut TurnEntries,
     left: &mut u64,
 ) -> Result<CallStand, ReplayFault>
     requires { IsShown CallStand.Instruction shown.old machine.old }
@@ -147,7 +166,7 @@ fn go_on(
     if *left == 0 {
         return Err(ReplayFault::Spent);
     }
-    let stand = make_step(shown, machine)?;
+    let stand = make_step(shown, machine, turn)?;
     *left -= 1;
     let after = go_outside(shown, machine, stand, left)?;
     Ok(after)
@@ -155,6 +174,7 @@ fn go_on(
 
 /// Continues a call until it has returned or trapped.
 pub(crate) fn finish_call(
+    alloc: Global,
     shown: &mut ShownText,
     machine: &mut Machine,
     first: CallStand,
@@ -166,9 +186,10 @@ pub(crate) fn finish_call(
     ensures left { OnOk result (left.new ≤ left.old) }
     ensures layout { OnOk result (shown.new.layout ≡ shown.old.layout) }
 {
+    let mut turn = TurnEntries::new(alloc);
     let mut stand = first;
     'steps: while let CallStand::Instruction = stand {
-        stand = go_on(shown, machine, left)?;
+        stand = go_on(shown, machine, &mut turn, left)?;
     }
     Ok(stand)
 }

@@ -160,7 +160,7 @@ fn run_calls(
     ensures layout { OnOk result (shown.new.layout ≡ shown.old.layout) }
 {
     let first = begin_run(alloc, shown, machine, start, entry)?;
-    let called = match finish_call(shown, machine, first, left) {
+    let called = match finish_call(alloc, shown, machine, first, left) {
         Ok(called) => called,
         Err(fault) => return Err(fault),
     };
@@ -168,7 +168,7 @@ fn run_calls(
         return Ok(outcome);
     }
     let second = begin_entry(alloc, shown, machine, entry)?;
-    match finish_call(shown, machine, second, left) {
+    match finish_call(alloc, shown, machine, second, left) {
         Ok(last) => match last {
             CallStand::Trapped { outcome } => Ok(outcome),
             _ => Ok(Outcome::Ended),

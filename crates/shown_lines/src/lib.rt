@@ -3,4 +3,4 @@
 
 mod shown_text;
 
-pub use shown_text::{ShownText, trap_outcome};
+pub use shown_text::{ShownText, trap_outcome, trap_outcome_of_turn};

@@ -1,19 +1,22 @@
 // The text of what a run shows, while it is written.
 
-ghost use Rattle.std.specs.Prelude.{◌≡◌, ◌+◌, ◌++◌, [], ◌∷◌, length, IfOk, OnOk};
+ghost use Rattle.std.specs.Prelude.{◌≡◌, ◌<◌, ◌+◌, ◌++◌, [], ◌∷◌, length, IfOk, OnOk};
 ghost use Rattle.std.specs.Option.{option_to_list};
 ghost use Rattle.history_spec.specs.Projection as projection;
 ghost use Rattle.shown_lines.specs.ShownLines.{lines, Shows, nothing_shown};
 ghost use Rattle.replay_run_spec.specs.Inside as inside;
 ghost use Rattle.replay_form.specs.Sides.{as_layout, side_of};
+ghost use Rattle.wasm_interp.specs.InstrEntries.{as_entry, entries_of};
+ghost use Rattle.history_spec.specs.declared.entries.Entry.TheVariants.{Step, Trap};
 
 use base::NoMemory;
-use history_lines::print_entry;
-use history_spec::{Entry, Outcome};
+use history_lines::{print_entry, print_step};
+use history_spec::{Entry, Outcome, TrapKind};
 use replay_form::{Layout, Side};
 use replay_run_spec::projections_run_along;
 use std::alloc::Global;
 use std::marker::Model;
+use wasm_interp::{InstrEntry, TurnEntries};
 use wasm_syntax::{List, Val, Vals};
 
 /// The lines of what the entries so far show, the number of shown entries, and the functions that control is in,
@@ -115,6 +118,16 @@ fn call_args(operands: &[Val], found: Option<u32>) -> &[Val]
     }
 }
 
+/// The outcome of a trap in a function.
+fn trapped_in(layout: Layout, func: u32) -> Outcome
+    ensures { result ≡ projection.trapped_on (projection.side (as_layout layout) func) }
+{
+    match layout.side(func) {
+        Side::Original => Outcome::Trapped,
+        _ => Outcome::HostTrapped,
+    }
+}
+
 /// The outcome of a history that ends with a trap: `Trapped` if an original traps, `HostTrapped` if a function
 /// outside does.
 pub fn trap_outcome(layout: Layout, entries: &[Entry]) -> Outcome
@@ -122,13 +135,20 @@ pub fn trap_outcome(layout: Layout, entries: &[Entry]) -> Outcome
 {
     'entries: for entry in entries {
         if let Entry::Trap { func, .. } = entry {
-            return match layout.side(*func) {
-                Side::Original => Outcome::Trapped,
-                _ => Outcome::HostTrapped,
-            };
+            return trapped_in(layout, *func);
         }
     }
     Outcome::Trapped
+}
+
+/// The outcome of a history that ends with the trap of a turn.
+pub fn trap_outcome_of_turn(layout: Layout, turn: &TurnEntries) -> Outcome
+    ensures { result ≡ projection.trap_outcome (as_layout layout) (entries_of turn.now) }
+{
+    match turn.instr.trap {
+        None => trap_outcome(layout, turn.after.as_slice()),
+        Some(_) => trapped_in(layout, turn.instr.func),
+    }
 }
 
 impl ShownText {
@@ -176,6 +196,15 @@ impl ShownText {
         }
     }
 
+    /// Counts an entry whose line was appended.
+    fn count_entry(&mut self)
+        requires { self.old.entries < length self.old.text }
+        ensures { self.new ≡ record self.old { entries = self.old.entries + 1 } }
+    {
+        let _length = self.text.len();
+        self.entries += 1;
+    }
+
     /// Appends the line of an entry.
     fn print(&mut self, entry: &Entry) -> Result<(), NoMemory>
         ensures text { OnOk result (self.new.text ≡ self.old.text ++ lines (entry.now ∷ [])) }
@@ -184,8 +213,7 @@ impl ShownText {
         ensures inside { self.new.inside ≡ self.old.inside }
     {
         print_entry(&mut self.text, entry)?;
-        let _length = self.text.len();
-        self.entries += 1;
+        self.count_entry();
         Ok(())
     }
 
@@ -285,6 +313,19 @@ impl ShownText {
         }
     }
 
+    /// Appends the lines of what entries show, with the latest call's arguments before them.
+    fn show_after(&mut self, first: &[Val], entries: &[Entry]) -> Result<(), NoMemory>
+        ensures { OnOk result (Shows self.old self.new first.now entries.now) }
+    {
+        projections_run_along();
+        let mut args: &[Val] = first;
+        'entries: for entry in entries {
+            self.show(entry, args)?;
+            args = args_after(args, entry);
+        }
+        Ok(())
+    }
+
     /// Appends the lines of what entries show. The entries are all that a run makes from a point where no
     /// arguments are known: before the first entry that enters a function without its arguments comes the
     /// instruction that calls it.
@@ -295,13 +336,91 @@ impl ShownText {
     pub fn show_all(&mut self, entries: &[Entry]) -> Result<(), NoMemory>
         ensures { OnOk result (Shows self.old self.new [] entries.now) }
     {
-        projections_run_along();
-        let mut args: &[Val] = &[];
-        'entries: for entry in entries {
-            self.show(entry, args)?;
-            args = args_after(args, entry);
-        }
+        self.show_after(&[], entries)
+    }
+
+    /// Appends the line of an instruction, which has not trapped.
+    fn print_instr(&mut self, instr: &InstrEntry) -> Result<(), NoMemory>
+        ensures text { OnOk result (self.new.text ≡ self.old.text ++ lines (Step instr.now.func instr.now.number
+            instr.now.operands.items instr.now.results.items instr.now.found ∷ [])) }
+        ensures count { OnOk result (self.new.entries ≡ self.old.entries + 1) }
+        ensures layout { self.new.layout ≡ self.old.layout }
+        ensures inside { self.new.inside ≡ self.old.inside }
+    {
+        print_step(
+            &mut self.text,
+            instr.func,
+            instr.number,
+            instr.operands.as_slice(),
+            instr.results.as_slice(),
+            instr.found,
+        )?;
+        self.count_entry();
         Ok(())
+    }
+
+    /// Shows an instruction that has not trapped, if it is the original's.
+    fn show_step(&mut self, instr: &InstrEntry) -> Result<(), NoMemory>
+        ensures { OnOk result (Shows self.old self.new [] (Step instr.now.func instr.now.number
+            instr.now.operands.items instr.now.results.items instr.now.found ∷ [])) }
+    {
+        match self.layout.side(instr.func) {
+            Side::Original => self.print_instr(instr),
+            _ => Ok(()),
+        }
+    }
+
+    /// Shows an instruction that has trapped.
+    fn show_trap(&mut self, instr: &InstrEntry, kind: TrapKind) -> Result<(), NoMemory>
+        ensures { OnOk result (Shows self.old self.new [] (Trap instr.now.func instr.now.number kind
+            instr.now.operands.items instr.now.found ∷ [])) }
+    {
+        let alloc = *self.text.allocator();
+        let entry = Entry::Trap {
+            func: instr.func,
+            number: instr.number,
+            kind,
+            operands: copy_of(alloc, instr.operands.as_slice())?,
+            found: instr.found,
+        };
+        self.trap(instr.func, &entry)
+    }
+
+    /// Shows an instruction.
+    fn show_instr(&mut self, instr: &InstrEntry) -> Result<(), NoMemory>
+        ensures { OnOk result (Shows self.old self.new [] (as_entry instr.now ∷ [])) }
+    {
+        match instr.trap {
+            None => self.show_step(instr),
+            Some(kind) => self.show_trap(instr, kind),
+        }
+    }
+
+    /// Appends the lines of what the entries of a turn show. No arguments are needed for them: that of the
+    /// instruction comes first.
+    ///
+    /// # Errors
+    ///
+    /// `NoMemory` if memory is out; the text is not to be used then.
+    pub fn show_turn(&mut self, turn: &TurnEntries) -> Result<(), NoMemory>
+        ensures { OnOk result (Shows self.old self.new [] (entries_of turn.now)) }
+    {
+        projections_run_along();
+        self.show_instr(&turn.instr)?;
+        match turn.after.as_slice() {
+            [] => Ok(()),
+            after => self.show_after(args_after_instr(&turn.instr), after),
+        }
+    }
+}
+
+/// The latest call's arguments after an instruction, if none were known before it.
+fn args_after_instr(instr: &InstrEntry) -> &[Val]
+    ensures { result.now ≡ inside.args_after [] (as_entry instr.now) }
+{
+    match instr.trap {
+        None => call_args(instr.operands.as_slice(), instr.found),
+        Some(_) => &[],
     }
 }
 

@@ -1,7 +1,7 @@
 // Logs of runs of instrumented modules, worked out by hand, and the lines of error of runs that have none.
 
-use r3_make::log_run;
 use r3_outside::SureSink;
+use r3_record::log_run;
 use sample_inputs::examples;
 use sample_inputs::hooked_modules::TWO_ANSWERS;
 use sample_inputs::scripts::ANSWERS;

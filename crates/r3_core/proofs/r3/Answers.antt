@@ -30,12 +30,12 @@ returns-in-Err-clause-printed_prefix g c = λ e.
     c.in-Err.ensures.printed_prefix (ap Err (status-write _ _ _ _ c.in-Err.fault c.in-Err.ensures.cause (sym c.status.ensures ∙ e)).0)
 
 pub returns-in-Err-clause-longer : goal.returns-in-Err-clause-longer
-returns-in-Err-clause-longer g c = λ listed known e longer.
-    subst (Contains (3 ∷ 4 ∷ 14 ∷ [])) (sym c.status.ensures) (c.in-Err.ensures.longer listed known e longer)
+returns-in-Err-clause-longer g c = λ job says known e longer.
+    subst (Contains (3 ∷ 4 ∷ 14 ∷ [])) (sym c.status.ensures) (c.in-Err.ensures.longer job says known e longer)
 
 pub returns-in-Err-clause-refused : goal.returns-in-Err-clause-refused
-returns-in-Err-clause-refused g c = λ command names number fault says known e none sure.
-    subst (Contains (status_of fault ∷ 3 ∷ 14 ∷ [])) (sym c.status.ensures) (c.in-Err.ensures.refused command names number fault says known e none sure)
+returns-in-Err-clause-refused g c = λ job fault says known e none sure.
+    subst (Contains (status_of fault ∷ 3 ∷ 14 ∷ [])) (sym c.status.ensures) (c.in-Err.ensures.refused job fault says known e none sure)
 
 pub returns-in-Err-clause-reported : goal.returns-in-Err-clause-reported
 returns-in-Err-clause-reported g c = λ other. (
@@ -68,5 +68,5 @@ returns-in-Err-clause-nothing_printed g c = λ some other.
     c.in-Err.ensures.nothing_printed (λ is. other (c.status.ensures ∙ ap status_of is))
 
 pub returns-in-Err-clause-done : goal.returns-in-Err-clause-done
-returns-in-Err-clause-done g c = λ command names number says known e none doable.
-    subst (Contains (0 ∷ 3 ∷ 13 ∷ 14 ∷ [])) (sym c.status.ensures) (done-after _ (c.in-Err.ensures.done command names number says known e none doable))
+returns-in-Err-clause-done g c = λ job says known e none doable.
+    subst (Contains (0 ∷ 3 ∷ 13 ∷ 14 ∷ [])) (sym c.status.ensures) (done-after _ (c.in-Err.ensures.done job says known e none doable))

@@ -29,22 +29,22 @@ grown before now line (inl grew) = grew
 grown before now line (inr (prefix, rose)) = absurd (omega (arith, rose))
 
 pub returns-clause-no_read_fault : goal.returns-clause-no_read_fault
-returns-clause-no_read_fault c = λ e. absurd (omega (arith, (c.r3.ensures.read e).2))
+returns-clause-no_read_fault c = λ e. absurd (omega (arith, (c.r3.ensures.read e).2.2))
 
 pub returns-clause-longer : goal.returns-clause-longer
-returns-clause-longer c = λ built longer.
-    too_long-or_memory c.r3.result (c.r3.ensures.longer built _ refl longer) (λ e. absurd (omega (arith, (c.r3.ensures.read e).2)))
+returns-clause-longer c = λ job says longer.
+    too_long-or_memory c.r3.result (c.r3.ensures.longer job says _ refl longer) (λ e. absurd (omega (arith, (c.r3.ensures.read e).2.2)))
 
 pub returns-clause-refused : goal.returns-clause-refused
-returns-clause-refused c = λ command names number fault says none refusal.
+returns-clause-refused c = λ job fault says none refusal.
     refusal-or_memory c.r3.result (status_of fault)
-    (c.r3.ensures.refused command names number fault says _ refl none refusal)
-    (λ e. absurd (omega (arith, (c.r3.ensures.read e).2)))
+    (c.r3.ensures.refused job fault says _ refl none refusal)
+    (λ e. absurd (omega (arith, (c.r3.ensures.read e).2.2)))
 
 pub returns-clause-done : goal.returns-clause-done
-returns-clause-done c = λ command names number says none doable.
-    done-or_memory c.r3.result (c.r3.ensures.done command names number says _ refl none doable)
-    (λ e. absurd (omega (arith, (c.r3.ensures.read e).2))) (λ e. absurd (omega (arith, c.r3.ensures.write e)))
+returns-clause-done c = λ job says none doable.
+    done-or_memory c.r3.result (c.r3.ensures.done job says _ refl none doable)
+    (λ e. absurd (omega (arith, (c.r3.ensures.read e).2.2))) (λ e. absurd (omega (arith, c.r3.ensures.write e)))
 
 pub returns-clause-nothing_printed : goal.returns-clause-nothing_printed
 returns-clause-nothing_printed c = λ other.

@@ -13,31 +13,31 @@ use Rattle.r3_make.proofs.frozen_runs.play_frozen.Goals as goal
 
 pub play-answer-requires-clause-hooked : goal.play-answer-requires-clause-hooked
 play-answer-requires-clause-hooked c =
-    let run = c.requires.recordable.0 in
-    let is = c.requires.recordable.2 in
-    subst (λ code. HasHooksAfter code c.args.inputs.now.imports) (sym (c.requires.code ∙ is.inputs_are.hooked))
+    let run = c.requires.0 in
+    let is = c.requires.2 in
+    subst (λ code. HasHooksAfter code c.args.inputs.now.imports) (sym (c.requires.3.code ∙ is.inputs_are.hooked))
     (subst (HasHooksAfter (instrumented_of run)) (sym is.inputs_are.imports)
     (hooks_after run is.original c.instrumented_import_hooks.ensures))
 
 pub play-answer-requires-clause-meter : goal.play-answer-requires-clause-meter
 play-answer-requires-clause-meter c =
-    let run = c.requires.recordable.0 in
-    let is = c.requires.recordable.2 in
-    subst (λ code. FitsMeter code c.args.inputs.now.meter) (sym (c.requires.code ∙ is.inputs_are.hooked))
+    let run = c.requires.0 in
+    let is = c.requires.2 in
+    subst (λ code. FitsMeter code c.args.inputs.now.meter) (sym (c.requires.3.code ∙ is.inputs_are.hooked))
     (subst (FitsMeter (instrumented_of run)) (sym is.inputs_are.meter)
     (meter_fits run is.original c.instrumented_meters_fit.ensures.fits))
 
 pub play-answer-requires-clause-begins : goal.play-answer-requires-clause-begins
 play-answer-requires-clause-begins c =
-    let run = c.requires.recordable.0 in
-    let is = c.requires.recordable.2 in
-    can_begin run c.args.inputs.now c.requires.recordable.1 is c.instrumented_are_runnable.ensures
+    let run = c.requires.0 in
+    let is = c.requires.2 in
+    can_begin run c.args.inputs.now c.requires.1 is c.instrumented_are_runnable.ensures
     c.instrumented_are_fitted.ensures c.instrumented_have_stores.ensures c.typed_store.ensures.supplied
-    c.typed_store.ensures.store c.args.play c.requires.recordable.3 c.requires.code c.requires.script c.requires.flat
-    c.requires.bound
+    c.typed_store.ensures.store c.args.play c.requires.3.opens c.requires.3.code c.requires.3.script c.requires.3.flat
+    c.requires.3.bound
 
 pub returns : goal.returns
-returns c = λ run supply number small is same new.
+returns c = λ run supply number small is begun new.
     let inputs = c.args.inputs.now in
     let r = record_of run c.args.turns in
     let play = c.args.play in
@@ -48,7 +48,7 @@ returns c = λ run supply number small is same new.
     (λ (r : RecordedRun). IsPlayedWithHooks (IsFreezerStep HasTakenSince) r.run c.play-answer.result c.args.freezer
     c.play-answer.new.hooks)
     (recorded_same run c.args.turns inputs.hooked play.script.now play.store inputs.meter inputs.imports
-    is.inputs_are.hooked (c.requires.script ∙ is.inputs_are.script) same is.inputs_are.meter is.inputs_are.imports)
+    is.inputs_are.hooked (begun.script ∙ is.inputs_are.script) begun.opens is.inputs_are.meter is.inputs_are.imports)
     (subst
     (λ code. IsPlayedWithHooks (IsFreezerStep HasTakenSince) (played code) c.play-answer.result c.args.freezer
-    c.play-answer.new.hooks) c.requires.code c.play-answer.ensures)))
+    c.play-answer.new.hooks) begun.code c.play-answer.ensures)))

@@ -1,46 +1,42 @@
-use Rattle.std.proofs.Common.{◌≡◌, Ok, subst}
-use Rattle.std.proofs.lemmas.Result.{IfOk-weaker}
-use Rattle.wasm_syntax.specs.Validity.{IsValid}
-use Rattle.history_spec.specs.Instantiation.{instantiate}
-use Rattle.history_spec.specs.Store.{Store}
-use Rattle.r3_make.specs.BuiltReplays.{IsReplayOf}
-use Rattle.r3_make.specs.Printed.{IsReplayFor}
+use Rattle.r3_make.proofs.Originals.{from_bytes, of_words, runnable}
 use Rattle.r3_make.proofs.ShownRun.{constant, replay_for}
 use Rattle.r3_make.proofs.replay_binary.made_replay.Goals as goal
 
+pub replay_bytes-requires-clause-encoded : goal.replay_bytes-requires-clause-encoded
+replay_bytes-requires-clause-encoded c =
+    (c.requires.original.bytes, from_bytes c.args.checked c.requires.original)
+
+pub replay_bytes-requires-clause-runnable : goal.replay_bytes-requires-clause-runnable
+replay_bytes-requires-clause-runnable c =
+    runnable c.args.checked c.requires.original c.args.script c.requires.runnable
+
 pub replay_bytes-requires-clause-supplied : goal.replay_bytes-requires-clause-supplied
 replay_bytes-requires-clause-supplied c =
-    c.typed_store.ensures.supplied c.args.checked c.args.script c.in_ok-supply.supply c.requires.runnable.fits
-    c.in_ok-supply.ensures.linked.1.supplied
+    let needed = c.in_ok-found.ensures.needed in
+    c.typed_store.ensures.supplied c.args.checked c.args.script c.in_ok-found.found.supply c.requires.runnable.fits
+    needed.1.linked.supplied
+
+pub replay_bytes-requires-clause-fits : goal.replay_bytes-requires-clause-fits
+replay_bytes-requires-clause-fits c = c.in_ok-found.ensures.needed.1.is_one.fits
 
 pub replay_bytes-requires-clause-constants : goal.replay_bytes-requires-clause-constants
 replay_bytes-requires-clause-constants c =
-    let needed = c.in_ok-tape.ensures.needed in
-    constant c.args.checked c.args.script c.args.turns c.in_ok-supply.supply needed.0 c.in_ok-tape.tape needed.1
-    (record {
-      valid = subst IsValid c.module-valid.ensures.same c.module-valid.ensures.valid;
-      supported = c.requires.runnable.supported;
-      bytes = c.requires.bytes;
-    }) c.requires.runnable.fits c.needed_tapes_are_constant.ensures
+    let needed = c.in_ok-found.ensures.needed in
+    constant c.args.checked c.args.script c.args.turns c.in_ok-found.found.supply needed.0 c.in_ok-found.found.tape
+    needed.1 (runnable c.args.checked c.requires.original c.args.script c.requires.runnable) c.requires.runnable.fits
+    c.needed_tapes_are_constant.ensures
 
-pub returns-clause-printed : goal.returns-clause-printed
-returns-clause-printed c =
+pub returns : goal.returns
+returns c =
     let m = c.args.checked in
     let script = c.args.script in
-    let supply = c.in_ok-supply.supply in
-    let tape = c.in_ok-tape.tape in
-    let needed = c.in_ok-tape.ensures.needed in
-    IfOk-weaker c.replay_bytes.result
-    (λ printed. (store : Store) → instantiate m supply ≡ Ok store → IsReplayOf m supply store tape printed.items)
-    (λ printed. IsReplayFor m script c.args.turns printed.items)
-    (λ printed is.
-    replay_for m script c.args.turns supply needed.0 tape needed.1
-    (record {
-      valid = subst IsValid c.module-valid.ensures.same c.module-valid.ensures.valid;
-      supported = c.requires.runnable.supported;
-      bytes = c.requires.bytes;
-    }) c.requires.runnable.fits
-    (c.encoded_have_words.ensures c.args.bytes.now m c.requires.is_module.encoded c.requires.small).0
-    c.runs_are_replayed.ensures c.nothing_can_be_dropped.ensures c.in_ok-tape.ensures.light
-    printed.items (is needed.0 needed.1.linked.begins))
-    c.replay_bytes.ensures.printed
+    let needed = c.in_ok-found.ensures.needed in
+    record {
+      cause = tt;
+      printed =
+          replay_for m script c.args.turns c.in_ok-found.found.supply needed.0 c.in_ok-found.found.tape needed.1
+          (runnable m c.requires.original script c.requires.runnable) c.requires.runnable.fits
+          (of_words m c.requires.original c.encoded_have_words.ensures).0 c.runs_are_replayed.ensures
+          c.nothing_can_be_dropped.ensures c.in_ok-found.ensures.light c.in_ok-printed.printed.items
+          (c.in_ok-printed.ensures.printed needed.0 needed.1.linked.begins);
+    }

@@ -1,77 +1,30 @@
-use Rattle.std.proofs.Common.{◌≡◌, ◌⊎◌, inl, inr, ℕ, List}
-use Rattle.std.proofs.lemmas.Result.{IfErr-weaker, IfOk-weaker}
-use Rattle.wasm_syntax.specs.declared.modules.Module.{Module}
-use Rattle.host_script.specs.declared.scripts.Script.{Script}
-use Rattle.r3_faults.specs.declared.faults.Fault.{Fault}
-use Rattle.r3_faults.specs.declared.faults.Fault.TheVariants.{Memory}
-use Rattle.accepted_runs.proofs.InputAnswers.{IsWhy, inputs-answer, inputs-memory, inputs-same, inputs-why}
-use Rattle.r3_inputs.proofs.AnswerLemmas.{passed}
-use Rattle.r3_make.specs.Refusals.{IsMakeRefusal, OfInputs, OfModule, IsUnmade}
-use Rattle.r3_make.specs.Tapes.{NeedsLightTape}
-use Rattle.r3_make.specs.Summaries.{IsSummaryFor, IsSummaryOf}
+use Rattle.r3_inputs.proofs.TextStages.{replay_goes_on, replay_stopped}
+use Rattle.accepted_runs.proofs.InputAnswers.{inputs_exact}
+use Rattle.r3_make.proofs.Commands.{HasReplay, replayable, summary_stages}
+use Rattle.r3_make.proofs.Originals.{of_file}
 use Rattle.r3_make.proofs.summaries.summary_of.Goals as goal
 
--- why there is no summary of a module and a script
-abbrev Why : ℕ → Module → Script → Fault → Type 0
-Why turns m script fault = IsUnmade m script turns fault
+pub lines_of-requires-clause-original : goal.lines_of-requires-clause-original
+lines_of-requires-clause-original c =
+    of_file c.args.module.now c.args.script.now c.in_ok-original.original c.in_ok-original.script c.requires
+    c.in_ok-original.ensures.taken
 
-why : (module_bytes script_bytes : List ℕ) (turns : ℕ) (fault : Fault)
-    → IsMakeRefusal module_bytes script_bytes turns fault → IsWhy module_bytes script_bytes (Why turns) fault
-why module_bytes script_bytes turns fault (OfInputs x) = inl x
-why module_bytes script_bytes turns fault (OfModule m script inputs x) = inr (m, script, inputs, x)
+pub returns-in_err-original : goal.returns-in_err-original
+returns-in_err-original c =
+    let module_bytes = c.args.module.now in
+    let script_bytes = c.args.script.now in
+    replay_stopped (summary_stages module_bytes script_bytes c.args.turns) c.inputs_of.result
+    (inputs_exact module_bytes script_bytes c.inputs_of.result c.inputs_of.ensures.taken c.inputs_of.ensures.cause
+    c.inputs_of.ensures.refused c.inputs_of.ensures.accepted) c.from_residual.result c.in_err-original.field-0.0
+    c.in_err-original.was c.from_residual.ensures.1 (HasReplay module_bytes script_bytes c.args.turns)
+    (replayable module_bytes script_bytes c.args.turns)
 
-pub returns-in_err-original-clause-cause : goal.returns-in_err-original-clause-cause
-returns-in_err-original-clause-cause c =
-    passed c.from_residual.result c.in_err-original.field-0.0
-    (λ fault. (fault ≡ Memory) ⊎ IsMakeRefusal c.args.module.now c.args.script.now c.args.turns fault)
-    c.from_residual.ensures.1
-    (elim c.in_err-original.ensures.cause [ inl memory ↦ inl memory | inr refused ↦ inr (OfInputs refused) ])
-
-pub returns-in_err-original-clause-refused : goal.returns-in_err-original-clause-refused
-returns-in_err-original-clause-refused c = λ fault refusal.
-    inputs-answer c.args.module.now c.args.script.now c.inputs_of.result c.inputs_of.ensures.refused
-    c.inputs_of.ensures.accepted c.in_err-original.field-0.0 c.in_err-original.was c.from_residual.result
-    c.from_residual.ensures.1 (Why c.args.turns) fault
-    (why c.args.module.now c.args.script.now c.args.turns fault refusal)
-
-pub returns-in_err-original-clause-accepted : goal.returns-in_err-original-clause-accepted
-returns-in_err-original-clause-accepted c = λ these.
-    inputs-memory c.args.module.now c.args.script.now c.inputs_of.result c.inputs_of.ensures.refused
-    c.inputs_of.ensures.accepted c.in_err-original.field-0.0 c.in_err-original.was c.from_residual.result
-    c.from_residual.ensures.1 these.m these.script these.inputs
-
-pub returns-clause-cause : goal.returns-clause-cause
-returns-clause-cause c =
-    let m = c.in_ok-original.original in
-    let script = c.in_ok-original.script in
-    IfErr-weaker c.lines_of.result (λ fault. (fault ≡ Memory) ⊎ IsUnmade m script c.args.turns fault)
-    (λ fault. (fault ≡ Memory) ⊎ IsMakeRefusal c.args.module.now c.args.script.now c.args.turns fault)
-    (λ fault either. elim either [
-      | inl memory ↦ inl memory
-      | inr unmade ↦ inr (OfModule m script c.in_ok-original.ensures.taken.inputs unmade)
-    ])
-    c.lines_of.ensures.cause
-
-pub returns-clause-printed : goal.returns-clause-printed
-returns-clause-printed c =
-    let m = c.in_ok-original.original in
-    let script = c.in_ok-original.script in
-    IfOk-weaker c.lines_of.result (λ bytes. IsSummaryOf m script c.args.turns bytes.items)
-    (λ bytes. IsSummaryFor c.args.module.now c.args.script.now c.args.turns bytes.items)
-    (λ bytes summary.
-    record { m = m; script = script; inputs = c.in_ok-original.ensures.taken.inputs; summary = summary })
-    c.lines_of.ensures.printed
-
-pub returns-clause-refused : goal.returns-clause-refused
-returns-clause-refused c = λ fault refusal.
-    c.lines_of.ensures.refused fault
-    (inputs-why c.args.module.now c.args.script.now c.inputs_of.result c.inputs_of.ensures.refused
-    c.inputs_of.ensures.accepted c.in_ok-original.original c.in_ok-original.script c.in_ok-original.was
-    (Why c.args.turns) fault (why c.args.module.now c.args.script.now c.args.turns fault refusal))
-
-pub returns-clause-accepted : goal.returns-clause-accepted
-returns-clause-accepted c = λ these.
-    c.lines_of.ensures.accepted
-    (inputs-same c.args.module.now c.args.script.now c.inputs_of.result c.inputs_of.ensures.refused
-    c.inputs_of.ensures.accepted c.in_ok-original.original c.in_ok-original.script c.in_ok-original.was
-    (λ m script. NeedsLightTape m script c.args.turns) these.m these.script these.inputs these.replayable)
+pub returns : goal.returns
+returns c =
+    let module_bytes = c.args.module.now in
+    let script_bytes = c.args.script.now in
+    replay_goes_on (summary_stages module_bytes script_bytes c.args.turns) c.inputs_of.result
+    (inputs_exact module_bytes script_bytes c.inputs_of.result c.inputs_of.ensures.taken c.inputs_of.ensures.cause
+    c.inputs_of.ensures.refused c.inputs_of.ensures.accepted) c.lines_of.result
+    (c.in_ok-original.original, c.in_ok-original.script) c.in_ok-original.was (HasReplay module_bytes script_bytes c.args.turns)
+    (replayable module_bytes script_bytes c.args.turns) c.lines_of.ensures

@@ -4,5 +4,5 @@ use Rattle.replay_gen.proofs.Groups.{part_from}
 use Rattle.replay_gen.proofs.imports.group.Goals as goal
 
 pub returns-clause-group : goal.returns-clause-group
-returns-clause-group c =
-    part_from GROUP_CALLS c.args.calls.now (GROUP_CALLS * c.args.number) c.min.result c.min.ensures
+returns-clause-group g c =
+    part_from GROUP_CALLS c.args.items.now (GROUP_CALLS * c.args.number) c.min.result c.min.ensures

@@ -15,7 +15,7 @@ returns c =
       walks =
           walk_made c.projections_run_along.ensures c.in_ok-turn.turn c.args.machine.now c.walk.new.self c.args.left.now
           c.walk.new.turns c.in_ok-turn.ensures.run
-          c.args.shown.now c.show_turn.new.shown c.in_ok-stand.stand c.requires.outside c.in_ok-stand.ensures.shows c.in_ok-stand.ensures.stands;
+          c.args.shown.now c.show_part.new.shown c.in_ok-stand.stand c.requires.outside c.in_ok-stand.ensures.shows c.in_ok-stand.ensures.stands;
       left = omega (arith, all);
       layout = c.in_ok-stand.ensures.shows.same_layout;
     }

@@ -1,0 +1,14 @@
+pub mod Executed
+pub mod Typed
+pub mod Trees
+pub mod Deliver
+pub mod Others
+pub mod Indices
+pub mod TypedFronts
+pub mod TypedOwn
+pub mod Known
+pub mod Contexts
+pub mod TypedAll
+pub mod ValidOutside
+pub mod Valid
+pub mod Digests

@@ -1,0 +1,2 @@
+mod OneTape
+mod OneBuilt

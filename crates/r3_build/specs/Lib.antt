@@ -1,0 +1,2 @@
+pub mod BuildRefusals
+pub mod BuiltReplays

@@ -1,0 +1,10 @@
+pub mod WorldRuns
+pub mod WorldReplays
+pub mod Sources
+pub mod ForeignInputs
+pub mod ForeignReplays
+pub mod ForeignHistories
+pub mod PairInputs
+pub mod PairReplays
+pub mod PairHistories
+pub mod RecordedModules

@@ -1,0 +1,5 @@
+mod UnrefusedCode
+mod Accepted
+mod Texts
+mod Histories
+mod Instances

@@ -1,0 +1,4 @@
+pub mod Accepted
+pub mod Texts
+pub mod PrintLaws
+pub mod Histories
