@@ -43,8 +43,8 @@ IsLoadCause reading files (TooLong name limit) =
     × ForSome reading.contents (λ known. first_longer known files ≡ Some (name, limit))
 IsLoadCause reading files fault = ⊥
 
--- The result of a call that loads these files in sequence has its cause: with a value, no read failed and no file is too
--- long; without one, one of the files was not loaded, or memory is out.
+-- The result of a call that loads these files in sequence has its cause: with a value, no read failed and no file is
+-- too long; without one, one of the files was not loaded, or memory is out.
 pub record IsLoading {V : Type 0} (reading : Reading) (files : List (List ℕ × ℕ)) (IsValue : V → Type 0)
     (result : Result V Fault) : Type 0 where
   pub faults_never_fall : NoneFell reading.faults_before reading.faults_now
