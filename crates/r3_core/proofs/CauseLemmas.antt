@@ -1,5 +1,5 @@
 -- Causes of faults, from some files of several; what a call that loads files implies for a call that passes its result on.
-use Rattle.std.proofs.Common.{◌≡◌, ℕ, ◌+◌, ◌≤◌, ◌⊎◌, List, [], ◌∷◌, ◌++◌, length, map, find, nat_lt, refl, sym, ◌∙◌, ap, subst, arith, Bool, Option, Some, None, Result, Ok, Err, IfOk, IfErr, OnOk, Vec, inl, inr}
+use Rattle.std.proofs.Common.{◌≡◌, ℕ, ◌+◌, ◌≤◌, ◌⊎◌, List, [], ◌∷◌, ◌++◌, length, map, find, nat_lt, sym, ◌∙◌, ap, subst, arith, Bool, Option, Some, None, Result, Ok, Err, IfOk, IfErr, OnOk, Vec, inl, inr}
 use Rattle.std.specs.List.{Contains}
 use Rattle.std.specs.Option.{option_or, ForSome}
 use Rattle.std.specs.Result.{IsErrAnd}

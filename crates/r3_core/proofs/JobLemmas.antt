@@ -1,14 +1,13 @@
--- Jobs with the bytes of their files: what they keep of the jobs that the words say, and the answers of commands as those
--- of jobs.
+-- Jobs with the bytes of their files: their numbers are those of the jobs that the words say, and the answers of
+-- commands are those of jobs.
 use Rattle.std.proofs.Common.{◌≡◌, ℕ, List, refl, sym, ◌∙◌, ap, subst, Result, Vec, OnOk, Ok, Err}
 use Rattle.r3_faults.specs.Answers.{IsExact, IsReplayAnswer}
 use Rattle.r3_faults.specs.declared.faults.Fault.{Fault}
 use Rattle.r3_core.specs.declared.jobs.Job.{Job}
 use Rattle.r3_core.specs.declared.jobs.Job.TheVariants.{Make, Instrument, Record, Reduce, Build, History, Replay, Show, Load, Foreign, ForeignHistory, Pair, PairHistory, From}
-use Rattle.r3_core.specs.Jobs.{form, files_of, map_files, without_files}
+use Rattle.r3_core.specs.Jobs.{form, map_files, without_files}
 use Rattle.r3_core.specs.Words.{AreInRange}
 use Rattle.r3_core.specs.Meanings.{IsAnswer}
-use Rattle.r3_core.specs.Causes.{AreWithin}
 
 -- the numbers of a job are those of the same job with other files
 numbers_mapped : {B C : Type 0} (f : B → C) (job : Job B) → (form (map_files f job)).numbers ≡ (form job).numbers
@@ -56,9 +55,3 @@ module _ {J : Type 0} (with_bytes : J → Job (List ℕ)) (job here : J) (is : j
   pub answer_at : {Z : Type 0} (given : Job (List ℕ)) (r : Result (Vec ℕ Z) Fault) → with_bytes here ≡ given
       → IsAnswer given r → IsAnswer (with_bytes job) r
   answer_at given r same answer = subst (λ job. IsAnswer job r) (sym (ap with_bytes is ∙ same)) answer
-
-  pub within_at : AreWithin (files_of (with_bytes job)) → AreWithin (files_of (with_bytes here))
-  within_at = subst (λ job. AreWithin (files_of (with_bytes job))) is
-
-  pub in_range_at : AreInRange (form (with_bytes job)).numbers → AreInRange (form (with_bytes here)).numbers
-  in_range_at = subst (λ job. AreInRange (form (with_bytes job)).numbers) is

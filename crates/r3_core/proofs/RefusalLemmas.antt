@@ -1,5 +1,5 @@
 -- The statuses of refused bytes: no other cause has one of them.
-use Rattle.std.proofs.Common.{◌≡◌, ℕ, ◌-◌, ◌^◌, min, List, [], ◌∷◌, refl, sym, ◌∙◌, ap, subst, Option, Some, None, inl, inr, Bool, true, false, not, ◌||◌, ◌==◌, true≢false}
+use Rattle.std.proofs.Common.{◌≡◌, ℕ, ◌-◌, ◌^◌, min, List, refl, sym, ◌∙◌, ap, subst, Option, Some, None, inl, inr, Bool, true, false, not, ◌||◌, ◌==◌, true≢false}
 use Rattle.r3_faults.specs.Lines.{status_of}
 use Rattle.r3_faults.specs.declared.faults.Fault.{Fault}
 use Rattle.r3_faults.specs.declared.faults.Fault.TheVariants as faults

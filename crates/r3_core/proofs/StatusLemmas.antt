@@ -12,7 +12,7 @@ use Rattle.r3_core.specs.declared.jobs.Job.{Job}
 use Rattle.r3_core.specs.Jobs.{files_of}
 use Rattle.r3_core.specs.Words.{IsListed, Says}
 use Rattle.r3_core.specs.Meanings.{IsRefusal}
-use Rattle.r3_core.specs.Causes.{Reading, first_longer, AreBytesOf, IsCause, IsLoadCause, IsPrintCause, IsRefused, Unlisted, Unloaded, Refused, Unwritten, OutOfMemory, UnloadedFile, RefusedBytes, NoMemoryLeft}
+use Rattle.r3_core.specs.Causes.{Reading, first_longer, AreBytesOf, IsCause, IsLoadCause, IsPrintCause, Unlisted, Unloaded, Refused, Unwritten, OutOfMemory, UnloadedFile, RefusedBytes, NoMemoryLeft}
 use Rattle.r3_core.proofs.CauseLemmas.{load-cases}
 use Rattle.r3_core.proofs.RefusalLemmas.{refusal-status}
 

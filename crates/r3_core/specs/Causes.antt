@@ -44,8 +44,8 @@ IsLoadCause reading files (TooLong name limit) =
     × ForSome reading.contents (λ known. first_longer known files ≡ Some (name, limit))
 IsLoadCause reading files fault = ⊥
 
--- a call that loads these files in sequence has its cause: if it gives a value, the value is as it should be, no read
--- failed and no file is too long; otherwise one of the files was not loaded, or memory is out
+-- The result of a call that loads these files in sequence has its cause: with a value, no read failed and no file is
+-- too long; without one, one of the files was not loaded, or memory is out.
 pub record IsLoading {V : Type 0} (reading : Reading) (files : List (List ℕ × ℕ)) (IsValue : V → Type 0)
     (result : Result V Fault) : Type 0 where
   pub faults_never_fall : NoneFell reading.faults_before reading.faults_now
@@ -55,8 +55,8 @@ pub record IsLoading {V : Type 0} (reading : Reading) (files : List (List ℕ ×
   pub within_limits : OnOk result (ForSome reading.contents (λ known. first_longer known files ≡ None))
   pub cause : IfErr result (λ fault. (fault ≡ Memory) ⊎ IsLoadCause reading files fault)
 
--- the bytes of a file with its limit: they are within the limit, and are those of the file, if the contents of files are
--- known
+-- the bytes of a file with its limit: they are within the limit, and are those of the file, if the contents of files
+-- are known
 pub record IsFile (contents : Option FileMap) (file : List ℕ × ℕ) (bytes : List ℕ) : Type 0 where
   pub contained : ForSome contents (λ known. bytes ≡ file_bytes known file.0)
   pub short : length bytes ≤ file.1

@@ -11,12 +11,14 @@ use Rattle.r3_core.specs.declared.jobs.Job.TheVariants.{Make, Instrument, Record
 abbrev pub from_one : (most : ℕ) → NumberRange
 from_one most = record { least = 1; most = most }
 
--- the name of a job's command, its files, each with its limit, and its numbers, each with its range
+-- what the words of a job say: the name of its command, its files, each with its limit, and its numbers, each with its
+-- range
 pub record Form (B : Type 0) : Type 0 where
   pub name : List ℕ
   pub files : List (B × ℕ)
   pub numbers : List (ℕ × NumberRange)
 
+-- the form of each job, one row for each command
 abbrev pub form : {B : Type 0} → Job B → Form B
 form (Make m s turns) =
     record {

@@ -87,7 +87,7 @@ IsDoable job = (meaning job).Doable
 abbrev pub Prints : Job (List ℕ) → (printed : List ℕ) → Type 0
 Prints job printed = (meaning job).Prints printed
 
--- The result of a job has its cause: the bytes may be printed, or the fault refuses the job, or memory is out. If memory
--- is not out, a fault that refuses is returned, and bytes are returned if the job can be done.
+-- The result of a job has its cause: the bytes may be printed, or the fault refuses the job, or memory is out. If
+-- memory is not out, a fault that refuses is returned, and bytes are returned if the job can be done.
 abbrev pub IsAnswer : {Z : Type 0} → Job (List ℕ) → Result (Vec ℕ Z) Fault → Type 0
 IsAnswer job result = IsReplayAnswer (Prints job) (IsRefusal job) (IsDoable job) result

@@ -30,7 +30,8 @@ pub(crate) fn load_job<F: Files>(
     ensures loads { IsLoading
         (reading_of (F.contents files.old)
         (F.faults files.old) (F.faults files.new) (F.taken files.old) (F.taken files.new))
-        (files_of (named job.entry)) (λ given. IsLoaded (F.contents files.old) (named job.entry) (bytes_of given)) result }
+        (files_of (named job.entry))
+        (λ given. IsLoaded (F.contents files.old) (named job.entry) (bytes_of given)) result }
 {
     match job {
         Job::Make {

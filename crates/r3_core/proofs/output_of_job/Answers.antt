@@ -1,4 +1,4 @@
-use Rattle.std.proofs.Common.{◌≡◌, sym, subst, Option, Some, None, IsSome, IfOk}
+use Rattle.std.proofs.Common.{◌≡◌, sym, subst, Option, Some, None, IsSome}
 use Rattle.std.proofs.lemmas.Bool.{false≢true}
 use Rattle.std.proofs.lemmas.Result.{IfOk-weaker}
 use Rattle.r3_core.specs.Jobs.{files_of}
