@@ -121,11 +121,7 @@ fn digest_func(alloc: Global, n: Numbers) -> Result<Func, NoMemory>
 }
 
 /// Appends the function of the digest, if there is a memory.
-pub(crate) fn push_digest(
-    alloc: Global,
-    funcs: &mut Vec<Func>,
-    n: Numbers,
-) -> Result<(), NoMemory>
+pub(crate) fn push_digest(alloc: Global, funcs: &mut Vec<Func>, n: Numbers) -> Result<(), NoMemory>
     requires { HasRoom n }
     ensures { OnOk result (funcs.new.items ≡ funcs.old.items ++ spec.digest_funcs n.digests n) }
 {

@@ -221,12 +221,7 @@ pub(crate) fn one_local(ty: ValType) -> Run
 }
 
 /// The body of the front of an original with this type.
-fn func_front_body(
-    alloc: Global,
-    n: Numbers,
-    ty: &FuncType,
-    func: u32,
-) -> Result<Body, NoMemory>
+fn func_front_body(alloc: Global, n: Numbers, ty: &FuncType, func: u32) -> Result<Body, NoMemory>
     requires room { HasRoom n }
     requires few { length ty.now.params + 1 < 2 ^ 32 }
     requires one { length ty.now.results < 2 }

@@ -18,9 +18,11 @@ use Rattle.guarded_module_laws.specs.Moved.{moved_nest, moved_place, moved_label
 
 left_alike : (to : ℕ → ℕ) (labels : List Label) (values : List Val) (rest : Nest) (number : ℕ)
     → leave (map (moved_label to) labels) values (moved_nest to rest) number
-    ≡ record { values = (leave labels values rest number).values;
-        labels = map (moved_label to) (leave labels values rest number).labels;
-        at = moved_place to (leave labels values rest number).at }
+    ≡ record {
+      values = (leave labels values rest number).values;
+      labels = map (moved_label to) (leave labels values rest number).labels;
+      at = moved_place to (leave labels values rest number).at;
+    }
 left_alike to [] values rest number = refl
 left_alike to (label ∷ labels) values Empty number =
     left_alike to labels (values ++ label.below) label.after_block.rest label.after_block.number
@@ -327,9 +329,11 @@ module _ (layout : Layout) (to : ℕ → ℕ) where
         where
           go : (labels : List Label) (at : Place) → labels ≡ [] → at ≡ place (Plain w.instr w.rest) w.number
               → at_end_of (leave labels (push_all results front.values) at.rest at.number).at.rest
-              (record front { values = (leave labels (push_all results front.values) at.rest at.number).values;
-                  labels = (leave labels (push_all results front.values) at.rest at.number).labels;
-                  at = (leave labels (push_all results front.values) at.rest at.number).at }) ≡ Within
+              (record front {
+                values = (leave labels (push_all results front.values) at.rest at.number).values;
+                labels = (leave labels (push_all results front.values) at.rest at.number).labels;
+                at = (leave labels (push_all results front.values) at.rest at.number).at;
+              }) ≡ Within
           go [] at l e =
               ap
               (λ (p : Place). at_end_of p.rest
@@ -358,9 +362,11 @@ module _ (layout : Layout) (to : ℕ → ℕ) where
       go : (labels : List Label) (at : Place) (values : List Val) → labels ≡ [] → at ≡ place Empty w.number
           → values ≡ []
           → at_end_of (leave labels (push_all results values) at.rest at.number).at.rest
-          (record front { values = (leave labels (push_all results values) at.rest at.number).values;
-              labels = (leave labels (push_all results values) at.rest at.number).labels;
-              at = (leave labels (push_all results values) at.rest at.number).at }) ≡ Gives results
+          (record front {
+            values = (leave labels (push_all results values) at.rest at.number).values;
+            labels = (leave labels (push_all results values) at.rest at.number).labels;
+            at = (leave labels (push_all results values) at.rest at.number).at;
+          }) ≡ Gives results
       go [] at [] l e v =
           ap
           (λ (p : Place). at_end_of p.rest

@@ -56,6 +56,7 @@ module _ (all : List FuncType) (n : Numbers) (outside : List Func) where
     where
       first_is : {a b : ℕ} {us vs : List ℕ} → a ∷ us ≡ b ∷ vs → a ≡ b
       first_is e = cc
+
       rest_is : {a b : ℕ} {us vs : List ℕ} → a ∷ us ≡ b ∷ vs → us ≡ vs
       rest_is e = cc
 

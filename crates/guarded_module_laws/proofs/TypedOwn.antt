@@ -103,18 +103,19 @@ module _ (ctx : Context) (n : Numbers) (gives : func_at ctx (next_place n) ≡ S
       read ctx 0 I64 (sequence (Call (next_place n) ∷ Numeric I64_NE ∷ []) branch) [] [] word
       (moved ctx (Call (next_place n)) [] (I64 ∷ []) (I64 ∷ []) (Plain (Numeric I64_NE) branch) []
       (ap (option_map call_of) gives)
-      (moved ctx (Numeric I64_NE) (I64 ∷ I64 ∷ []) (I32 ∷ []) [] branch [] refl
-      ([],
-      refl,
-      refl,
-      led (inside [] ctx) Unreachable (Leaves []) Empty [] [] [] refl (record { below = []; had = refl }) refl,
-      refl,
-      moved ctx (GlobalGet (passed n)) [] (I32 ∷ []) []
-      (sequence (i32_const 1 ∷ Numeric I32_ADD ∷ GlobalSet (passed n) ∷ []) Empty) []
-      (ap (option_map (λ (g : GlobalType). Moves [] (g.ty ∷ []))) counts)
-      (i32_pushed ctx 1 (sequence (Numeric I32_ADD ∷ GlobalSet (passed n) ∷ []) Empty) (I32 ∷ []) [] (omega arith)
-      (moved ctx (Numeric I32_ADD) (I32 ∷ I32 ∷ []) (I32 ∷ []) [] (sequence (GlobalSet (passed n) ∷ []) Empty) [] refl
-      (moved ctx (GlobalSet (passed n)) (I32 ∷ []) [] [] Empty [] (ap (option_and_then set_of) counts) refl))))))
+      (moved ctx (Numeric I64_NE) (I64 ∷ I64 ∷ []) (I32 ∷ []) [] branch [] refl (
+        [],
+        refl,
+        refl,
+        led (inside [] ctx) Unreachable (Leaves []) Empty [] [] [] refl (record { below = []; had = refl }) refl,
+        refl,
+        moved ctx (GlobalGet (passed n)) [] (I32 ∷ []) []
+            (sequence (i32_const 1 ∷ Numeric I32_ADD ∷ GlobalSet (passed n) ∷ []) Empty) []
+            (ap (option_map (λ (g : GlobalType). Moves [] (g.ty ∷ []))) counts)
+            (i32_pushed ctx 1 (sequence (Numeric I32_ADD ∷ GlobalSet (passed n) ∷ []) Empty) (I32 ∷ []) [] (omega arith)
+            (moved ctx (Numeric I32_ADD) (I32 ∷ I32 ∷ []) (I32 ∷ []) [] (sequence (GlobalSet (passed n) ∷ []) Empty) [] refl
+            (moved ctx (GlobalSet (passed n)) (I32 ∷ []) [] [] Empty [] (ap (option_and_then set_of) counts) refl))),
+      )))
 
 -- ---- the digest
 
@@ -149,16 +150,19 @@ module _ (ctx : Context) (memory : has_memory ctx ≡ true) (address : slice_get
       moved ctx MemorySize [] (I32 ∷ []) [] (past 1) (I64 ∷ []) (ap (λ b. if_true b (Moves [] (I32 ∷ []))) memory)
       (i32_pushed ctx 16 (past 2) (I32 ∷ []) (I64 ∷ []) (omega arith)
       (moved ctx (Numeric I32_SHL) (I32 ∷ I32 ∷ []) (I32 ∷ []) [] (past 3) (I64 ∷ []) refl
-      (kept ctx 0 I32 branch [] (I64 ∷ []) address
-      ([],
-      refl,
-      refl,
-      (refl,
-      turn_typed loop refl memory (LocalGet 0 ∷ BrIf 0 ∷ [])
-      (read loop 0 I32 (Plain (BrIf 0) Empty) [] [] address (moved loop (BrIf 0) (I32 ∷ []) [] [] Empty [] refl refl)),
-      refl),
-      refl,
-      read ctx 1 I64 Empty [] (I64 ∷ []) digest refl))))
+      (kept ctx 0 I32 branch [] (I64 ∷ []) address (
+        [],
+        refl,
+        refl,
+        (
+          refl,
+          turn_typed loop refl memory (LocalGet 0 ∷ BrIf 0 ∷ [])
+              (read loop 0 I32 (Plain (BrIf 0) Empty) [] [] address (moved loop (BrIf 0) (I32 ∷ []) [] [] Empty [] refl refl)),
+          refl,
+        ),
+        refl,
+        read ctx 1 I64 Empty [] (I64 ∷ []) digest refl,
+      ))))
 
 -- ---- the words
 

@@ -33,7 +33,11 @@ pub(crate) fn appended_types(alloc: Global) -> Result<FuncTypes, NoMemory>
 /// # Errors
 ///
 /// `NoMemory` if memory is out.
-pub fn push_group_type(alloc: Global, types: &mut Vec<FuncType>, value: ValType) -> Result<(), NoMemory>
+pub fn push_group_type(
+    alloc: Global,
+    types: &mut Vec<FuncType>,
+    value: ValType,
+) -> Result<(), NoMemory>
     ensures { OnOk result (types.new.items ≡ types.old.items ++ group_type (value ∷ []) ∷ []) }
 {
     let results = one_type(alloc, value)?;

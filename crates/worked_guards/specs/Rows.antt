@@ -22,7 +22,7 @@ pub record TwoAnswers : Type 0 where
       ∷ codes "0240024002400240024002402000418002700e050001020304050b42000f0b42000f0b42010f0b420c0f0b427f0f0b000b" ∷ []
   pub counts : counts two_answers_case (guard two_answers_case) 600 ≡ i32 5 ∷ i32 5 ∷ i32 5 ∷ []
 
--- a call of an import that lies within another, the return of the call by the host within it, and the size of the memory
+-- a call of an import within another, the return of the call by the host within that, and the size of the memory
 pub record NestedCall : Type 0 where
   pub words : words_before_digest nested_call_case ≡ 0 ∷ 0 ∷ 2 ∷ 2 ∷ 1 ∷ 5 ∷ 1 ∷ []
 
