@@ -9,7 +9,7 @@ use Rattle.wasm_syntax.proofs.JoinedLists.{cons_front}
 use Rattle.module_index.specs.Marks.{AreMarks}
 use Rattle.guarded_module_spec.specs.declared.numbers.Numbers.{Numbers}
 use Rattle.guarded_module_spec.specs.Fronts.{func_front}
-use Rattle.guarded_module_spec.specs.GuardedModules.{called_func, called_funcs, func_fronts, type_in}
+use Rattle.guarded_module_spec.specs.GuardedModules.{called_func, called_funcs, func_fronts, is_called, type_in}
 use Rattle.guard_maker.specs.Parts.{marked_fronts}
 
 called_last : (body : List Instr) (i : Instr)
@@ -44,5 +44,5 @@ fronts_marked types n marks count first outside [] are few = refl
 fronts_marked types n marks count first outside (f ∷ funcs) are few =
     ap (λ b. func_front b n (type_in types f.ty) first f.ty ∷ marked_fronts types n marks (first + 1) funcs)
     (are.each first (omega (arith, few)))
-    ∙ ap (λ l. func_front _ n (type_in types f.ty) first f.ty ∷ l)
+    ∙ ap (λ l. func_front (is_called first outside) n (type_in types f.ty) first f.ty ∷ l)
     (fronts_marked types n marks count (first + 1) outside funcs are (omega (arith, few)))

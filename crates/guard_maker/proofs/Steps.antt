@@ -16,3 +16,15 @@ mapped_more f first n start before now invariant written =
 pub same_for_each : {X Y : Type 0} (y : Y) (xs : List X) → replicate (length xs) y ≡ map (λ (x : X). y) xs
 same_for_each y [] = refl
 same_for_each y (x ∷ xs) = ap (λ l. y ∷ l) (same_for_each y xs)
+
+-- functions that are appended in five steps
+pub own_parts : {X : Type 0} (old one two three four now : List X) (start check next : X) (digests groups : List X)
+    → one ≡ old ++ start ∷ [] → two ≡ one ++ digests → three ≡ two ++ check ∷ [] → four ≡ three ++ next ∷ []
+    → now ≡ four ++ groups → now ≡ old ++ start ∷ (digests ++ check ∷ next ∷ groups)
+own_parts old one two three four now start check next digests groups a b c d e =
+    e
+    ∙ ap (λ l. l ++ groups) (d ∙ ap (λ l. l ++ next ∷ []) (c ∙ ap (λ l. l ++ check ∷ []) (b ∙ ap (λ l. l ++ digests) a)))
+    ∙ append_assoc (((old ++ start ∷ []) ++ digests) ++ check ∷ []) (next ∷ []) groups
+    ∙ append_assoc ((old ++ start ∷ []) ++ digests) (check ∷ []) (next ∷ groups)
+    ∙ append_assoc (old ++ start ∷ []) digests (check ∷ next ∷ groups)
+    ∙ append_assoc old (start ∷ []) (digests ++ check ∷ next ∷ groups)

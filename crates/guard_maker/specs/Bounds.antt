@@ -25,5 +25,5 @@ pub record FitsNumbers (m : Module) (layout : Layout) (words : ℕ) : Type 0 whe
   pub globals : length m.globals + 2 < 2 ^ 32
   pub funcs : length m.funcs + (layout.imports + layout.defined) + 4 + group_count words < 2 ^ 32
   pub within : layout.imports + layout.defined ≤ length m.funcs
-  pub words : words < 2 ^ 32
+  pub few_words : words < 2 ^ 32
   pub small : HasSmallTypes m.types

@@ -1,6 +1,6 @@
 // The function that gives the digest of the memory.
 
-ghost use Rattle.std.specs.Prelude.{◌≡◌, ◌++◌, IfOk, OnOk};
+ghost use Rattle.std.specs.Prelude.{◌≡◌, ◌++◌, IfOk, OnOk, drop, take};
 ghost use Rattle.replay_module_spec.specs.Dispatch.{body_of};
 ghost use Rattle.guarded_module_spec.specs.Functions as spec;
 ghost use Rattle.guard_maker.specs.Bounds.{HasRoom};
@@ -15,8 +15,11 @@ use wasm_syntax::{Body, Func, Instr, List, MemArg, Runs, ValType};
 /// The number of instructions of the code before the loop.
 const IN_BEGIN: usize = 4;
 
-/// The number of instructions that take eight bytes into the digest.
-const IN_TURN: usize = 12;
+/// The number of instructions that load eight bytes.
+const IN_LOAD: usize = 5;
+
+/// The number of instructions that take a word into the digest.
+const IN_MIX: usize = 7;
 
 /// The number of instructions after those in the loop.
 const IN_LOOP: usize = 6;
@@ -33,11 +36,11 @@ fn push_begin(code: &mut Vec<Instr>) -> Result<(), NoMemory>
     Ok(())
 }
 
-/// Appends code that takes the eight bytes before an address into the digest.
-fn push_turn(code: &mut Vec<Instr>) -> Result<(), NoMemory>
-    ensures { OnOk result (code.new.items ≡ code.old.items ++ spec.digest_turn) }
+/// Appends code that loads the eight bytes before an address, which is kept.
+fn push_load(code: &mut Vec<Instr>) -> Result<(), NoMemory>
+    ensures { OnOk result (code.new.items ≡ code.old.items ++ take 5 spec.digest_turn) }
 {
-    code.reserve(IN_TURN)?;
+    code.reserve(IN_LOAD)?;
     code.push_reserved(Instr::LocalGet(0));
     code.push_reserved(i32_const(8));
     code.push_reserved(Instr::Numeric(I32_SUB));
@@ -47,6 +50,14 @@ fn push_turn(code: &mut Vec<Instr>) -> Result<(), NoMemory>
         align: 3,
         offset: 0,
     }));
+    Ok(())
+}
+
+/// Appends code that takes the word on the stack into the digest.
+fn push_mix(code: &mut Vec<Instr>) -> Result<(), NoMemory>
+    ensures { OnOk result (code.new.items ≡ code.old.items ++ drop 5 spec.digest_turn) }
+{
+    code.reserve(IN_MIX)?;
     code.push_reserved(Instr::LocalGet(1));
     code.push_reserved(Instr::Numeric(I64_XOR));
     code.push_reserved(i64_const(DIGEST_ROTATION));
@@ -54,6 +65,15 @@ fn push_turn(code: &mut Vec<Instr>) -> Result<(), NoMemory>
     code.push_reserved(i64_const(DIGEST_FACTOR));
     code.push_reserved(Instr::Numeric(I64_MUL));
     code.push_reserved(Instr::LocalSet(1));
+    Ok(())
+}
+
+/// Appends code that takes the eight bytes before an address into the digest.
+fn push_turn(code: &mut Vec<Instr>) -> Result<(), NoMemory>
+    ensures { OnOk result (code.new.items ≡ code.old.items ++ spec.digest_turn) }
+{
+    push_load(code)?;
+    push_mix(code)?;
     Ok(())
 }
 

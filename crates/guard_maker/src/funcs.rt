@@ -134,7 +134,8 @@ fn push_own(
     push_digest(alloc, list, n)?;
     list.push(check_func(alloc, n)?)?;
     list.push(next_func(alloc, n, words.len())?)?;
-    push_groups(alloc, list, n, words)
+    push_groups(alloc, list, n, words)?;
+    Ok(())
 }
 
 /// Appends the fronts of the originals, by the functions outside that call them.
@@ -162,7 +163,8 @@ fn push_fronts_called(
         marks.as_slice(),
         n.imports,
         sides.originals.as_slice(),
-    )
+    )?;
+    Ok(())
 }
 
 /// The functions of the guarded module, from those of the replay module, which are moved.

@@ -5,7 +5,7 @@ use Rattle.wasm_syntax.specs.Laws.{ValidityIsDecided}
 use Rattle.wasm_syntax.specs.ValidityTests.{invalid_at}
 use Rattle.worked_replay_modules.specs.Cases.{ReplayCase, empty_case, never_called_case, two_answers_case, fill_past_case, nested_trap_case, host_trap_case, table_entry_case, table_entry_emptied_case, table_entry_import_case, table_growth_case, table_growth_short_case, table_not_grown_case, float_global_case, overwrite_case, grow_access_case, copy_load_case, fill_grown_case, nested_call_case, imported_offset_case, c_buffers_case}
 use Rattle.worked_replay_modules.specs.Tests.{lines_of_result, script_lines}
-use Rattle.worked_guards.specs.Tests.{guard, guard_for, history_words, lines_before_end, print_guard}
+use Rattle.worked_guards.specs.Tests.{guard, guard_for, words_before_digest, lines_before_end, print_guard}
 use Rattle.worked_guards.specs.AllTypes.{all_types_case}
 use Rattle.worked_guards.specs.Guards.{GuardsOfReplays, IsGuarded, IsGuardedBefore}
 
@@ -15,8 +15,8 @@ record Computes (c : ReplayCase) : Type 0 where
   shows : lines_of_result (print_guard c (guard c) 600) ≡ script_lines c.original c.script
 
 record ComputesBefore (c : ReplayCase) : Type 0 where
-  valid : invalid_at (guard_for c (history_words c)) ≡ None
-  shows : lines_before_end c (guard_for c (history_words c)) 250 ≡ script_lines c.original c.script
+  valid : invalid_at (guard_for c (words_before_digest c)) ≡ None
+  shows : lines_before_end c (guard_for c (words_before_digest c)) 250 ≡ script_lines c.original c.script
 
 empty : Computes empty_case
 unfolding digits
@@ -108,7 +108,7 @@ module _ (decided : ValidityIsDecided) where
 
   guarded_before : (c : ReplayCase) → ComputesBefore c → IsGuardedBefore c
   guarded_before c computes =
-      record { valid = (decided (guard_for c (history_words c))).1 computes.valid; shows = computes.shows }
+      record { valid = (decided (guard_for c (words_before_digest c))).1 computes.valid; shows = computes.shows }
 
   pub guards_of_replays : GuardsOfReplays
   guards_of_replays =

@@ -4,7 +4,7 @@ use Rattle.wasm_syntax.specs.Encoding.Shortest.{encoding_of}
 use Rattle.worked_histories.specs.Build.{i32}
 use Rattle.worked_replay_modules.specs.Cases.{empty_case, fill_past_case, nested_call_case, never_called_case, two_answers_case}
 use Rattle.guarded_module_spec.specs.Words.{digest_of}
-use Rattle.worked_guards.specs.Tests.{bodies_text, counts, guard, history_words, words}
+use Rattle.worked_guards.specs.Tests.{bodies_text, counts, guard, words_before_digest, words}
 use Rattle.worked_guards.specs.AllTypes.{all_types_case}
 
 -- two calls of an import, the return of a call by the host, and the word of the end
@@ -22,9 +22,9 @@ pub record TwoAnswers : Type 0 where
       ∷ codes "0240024002400240024002402000418002700e050001020304050b42000f0b42000f0b42010f0b420c0f0b427f0f0b000b" ∷ []
   pub counts : counts two_answers_case (guard two_answers_case) 600 ≡ i32 5 ∷ i32 5 ∷ i32 5 ∷ []
 
--- a call of an import that lies within another, and the return of the call by the host within it
+-- a call of an import within another, the return of the call by the host within that, and the size of the memory
 pub record NestedCall : Type 0 where
-  pub words : history_words nested_call_case ≡ 0 ∷ 0 ∷ 2 ∷ 2 ∷ 1 ∷ 5 ∷ []
+  pub words : words_before_digest nested_call_case ≡ 0 ∷ 0 ∷ 2 ∷ 2 ∷ 1 ∷ 5 ∷ 1 ∷ []
 
 -- values of all types, by their bits
 pub record AllTypes : Type 0 where

@@ -1,5 +1,5 @@
 -- What is computed of the guarded modules of worked replay modules.
-use Rattle.std.specs.Prelude.{ℕ, ◌+◌, ◌/◌, ◌%◌, List, [], ◌∷◌, ◌++◌, length, map, flat_map, drop, cond, nat_lt, Result, Ok, Err}
+use Rattle.std.specs.Prelude.{ℕ, ◌+◌, ◌/◌, ◌%◌, List, [], ◌∷◌, ◌++◌, length, map, flat_map, drop, cond, nat_lt, option_map, option_to_list, Result, Ok, Err}
 use Rattle.wasm_syntax.specs.declared.values.Val.{Val}
 use Rattle.wasm_syntax.specs.declared.modules.Func.{Func}
 use Rattle.wasm_syntax.specs.declared.modules.Module.{Module}
@@ -8,6 +8,7 @@ use Rattle.host_script.specs.declared.scripts.LinkFault.{LinkFault}
 use Rattle.base.specs.declared.outcomes.Outcome.TheVariants.{Ended}
 use Rattle.history_spec.specs.Line.{entry_text, outcome_text}
 use Rattle.history_spec.specs.Step.{StepResult}
+use Rattle.history_spec.specs.Store.{pages}
 use Rattle.history_spec.specs.Replay.{run_start_alone}
 use Rattle.worked_histories.specs.RunLines.{PrintResult, print_replay}
 use Rattle.worked_replay_modules.specs.Cases.{ReplayCase}
@@ -33,10 +34,12 @@ words c =
     from_start [] (λ initial. words_after (replay c) (layout_of c.original) initial 100)
     (run_start_alone (replay c) (entry_of c.original))
 
--- those among them that are of its history
-abbrev pub history_words : ReplayCase → List ℕ
-history_words c =
-    from_start [] (λ initial. words_of (shown (layout_of c.original) (run_alone (replay c) initial 100)))
+-- those among them before the digest: of its history, and the size of the memory
+abbrev pub words_before_digest : ReplayCase → List ℕ
+words_before_digest c =
+    from_start []
+    (λ initial. words_of (shown (layout_of c.original) (run_alone (replay c) initial 100))
+    ++ option_to_list (option_map pages (store_alone (replay c) initial 100).memory))
     (run_start_alone (replay c) (entry_of c.original))
 
 -- the guarded module of a case for given words
