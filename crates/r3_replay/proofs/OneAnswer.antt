@@ -10,12 +10,12 @@ use Rattle.history_spec.specs.Budget.{HasOneResultAtMost, IsResult}
 use Rattle.history_spec.specs.Instantiation.{instantiate}
 use Rattle.history_spec.specs.Line.{history_text}
 use Rattle.history_spec.specs.Projection.{Layout, Projection, projection}
-use Rattle.history_spec.specs.Replay.{alone, entry_function, instructions, program_alone, run_start_alone, start_alone_or_fault}
+use Rattle.history_spec.specs.Replay.{alone, instructions, program_alone, run_start_alone, start_alone_or_fault}
 use Rattle.history_spec.specs.Run.{Run, run_from}
 use Rattle.history_spec.specs.Step.{StepResult}
 use Rattle.history_spec.specs.Store.{Store}
 use Rattle.host_play.specs.declared.results.PrintedRun.{PrintedRun}
-use Rattle.replay_form.specs.Forms.{HasEntry, HasLayout}
+use Rattle.replay_form.specs.Forms.{HasEntry, HasLayout, exported_entry}
 use Rattle.replay_run.specs.declared.results.ReplayFault.{ReplayFault}
 use Rattle.replay_run.specs.declared.results.ReplayFault.TheVariants as replay
 use Rattle.replay_run.specs.Results.{IsUnlinked, RefusesReplay, PrintsReplay}
@@ -38,7 +38,7 @@ unfit-started m entry (Err other) found initial e f = cc f
 module _ (m : Module) (turns : ℕ) (layout-one : (a b : Layout) → HasLayout m a → HasLayout m b → a ≡ b)
     (one : (initial : StepResult) → HasOneResultAtMost (run_from (program_alone m) instructions initial) instructions turns) where
   entry-one : (a b : ℕ) → HasEntry m a → HasEntry m b → a ≡ b
-  entry-one a b x y = same_some (entry_function m) a b x.exported y.exported
+  entry-one a b x y = same_some (exported_entry m) a b x.exported y.exported
 
   start-one : (a b : ℕ) (x y : StepResult) → HasEntry m a → HasEntry m b → run_start_alone m a ≡ Ok x → run_start_alone m b ≡ Ok y → x ≡ y
   start-one a b x y p q e f =

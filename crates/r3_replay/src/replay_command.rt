@@ -16,9 +16,9 @@ use std::alloc::Global;
 /// # Errors
 ///
 /// The fault names the cause: the module is refused, it does not declare its original's layout, has imports, or
-/// does not export only a function `_start` without parameters and results, a segment does not fit into its
-/// table or memory, or the run needs more turns. Each is reported if and only if it is the first cause that
-/// applies. `Memory` if memory is out.
+/// does not export only a function `_start` without parameters and results (and globals, if a custom section
+/// `r3.guard` marks it), a segment does not fit into its table or memory, or the run needs more turns. Each is
+/// reported if and only if it is the first cause that applies. `Memory` if memory is out.
 pub fn replay_text(alloc: Global, binary: &[u8], turns: u64) -> Result<Vec<u8>, Fault>
     requires { length binary.now ≤ MAX_REPLAY_BYTES }
     ensures { IsExact (IsReplayText binary.now turns) (IsReplayRefusal binary.now turns) result }

@@ -16,7 +16,8 @@ pub enum ReplayFault {
     /// The module has imports.
     #[error("there are imports")]
     Imports,
-    /// The exports are not exactly one function `_start` without parameters and results.
+    /// The exports are not exactly one function `_start` without parameters and results. A module with a custom
+    /// section `r3.guard` may export globals besides.
     #[error("no entry")]
     NoEntry,
     /// This segment does not fit into its table or memory; element segments are checked before data segments.

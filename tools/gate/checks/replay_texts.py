@@ -13,6 +13,9 @@ TWO_DEFINED = custom(LAYOUT, b"\0\2")
 ONE_AND_ONE = custom(LAYOUT, b"\1\1")
 ONE_AND_TWO = custom(LAYOUT, b"\1\2")
 
+# The section that marks a guarded replay.
+GUARD = custom("r3.guard", b"")
+
 # Modules without the section that declares their layout.
 
 # The body 0 of an import, which counts its calls and answers 5 and 7, the original 1, which adds two of its answers,
@@ -37,6 +40,25 @@ TRAP = bytes.fromhex("0061736d0100000001040160000003020100070a01065f737461727400
 # One function, `_start`, which traps in its second instruction.
 # (module (func (export "_start") nop unreachable))
 LATE_TRAP = bytes.fromhex("0061736d0100000001040160000003020100070a01065f737461727400000a0601040001000b")
+
+# `_start`, and an exported global after it.
+# (module (global i32 i32.const 0) (func (export "_start")) (export "passed" (global 0)))
+WITH_GLOBAL = bytes.fromhex(
+    "0061736d01000000010401600000030201000606017f0041000b071302065f73746172740000067061737365640300"
+    "0a040102000b"
+)
+
+# `_start` under another name, and an exported global.
+# (module (global i32 i32.const 0) (func (export "start")) (export "passed" (global 0)))
+OTHER_NAME_WITH_GLOBAL = bytes.fromhex(
+    "0061736d01000000010401600000030201000606017f0041000b07120205737461727400000670617373656403000a040102000b"
+)
+
+# An exported global alone.
+# (module (global i32 i32.const 0) (func) (export "passed" (global 0)))
+GLOBAL_ALONE = bytes.fromhex(
+    "0061736d01000000010401600000030201000606017f0041000b070a010670617373656403000a040102000b"
+)
 
 # A name, a module, the section behind it that declares its layout, the turns, and the lines.
 SHOWN = [
@@ -139,6 +161,27 @@ SHOWN = [
     ("a trap outside", TRAP, NONE, "1", "host-trap; host-trapped"),
     ("a trap outside in the last turn", LATE_TRAP, NONE, "2", "host-trap; host-trapped"),
     ("another section beside it", EMPTY, custom("r3", b"\0\1") + ONE_DEFINED, "9", "host-call 0; host-return 0; ended"),
+    ("a guarded replay", WITH_GLOBAL, ONE_DEFINED + GUARD, "1", "host-call 0; host-return 0; ended"),
+    ("a guarded replay without a global", EMPTY, GUARD + ONE_DEFINED, "1", "host-call 0; host-return 0; ended"),
+    (
+        "a guarded replay that is marked twice, once with bytes",
+        WITH_GLOBAL,
+        GUARD + ONE_DEFINED + custom("r3.guard", b"\1"),
+        "1",
+        "host-call 0; host-return 0; ended",
+    ),
+    (
+        "a guarded replay with a global before `_start`",
+        # (module (global i32 i32.const 0) (global i32 i32.const 0) (export "begun" (global 0)) (func (export "_start"))
+        #   (export "passed" (global 1)))
+        bytes.fromhex(
+            "0061736d0100000001040160000003020100060b027f0041000b7f0041000b071b0305626567756e0300065f737461727400000670"
+            "617373656403010a040102000b"
+        ),
+        ONE_DEFINED + GUARD,
+        "1",
+        "host-call 0; host-return 0; ended",
+    ),
 ]
 
 # Modules that `replay` refuses, with the same parts before the status and the line of error.
@@ -196,6 +239,46 @@ REFUSED = [
         # (module (func (export "_start") (export "again")))
         bytes.fromhex("0061736d0100000001040160000003020100071202065f7374617274000005616761696e00000a040102000b"),
         ONE_DEFINED,
+        "9",
+        17,
+        "replay: entry",
+    ),
+    ("an exported global", WITH_GLOBAL, ONE_DEFINED, "9", 17, "replay: entry"),
+    ("a longer mark", WITH_GLOBAL, ONE_DEFINED + custom("r3.guards", b""), "9", 17, "replay: entry"),
+    ("a shorter mark", WITH_GLOBAL, ONE_DEFINED + custom("r3.guar", b""), "9", 17, "replay: entry"),
+    ("a guarded replay without a layout", WITH_GLOBAL, GUARD, "9", 17, "replay: layout"),
+    ("a guarded replay without a function", GLOBAL_ALONE, ONE_DEFINED + GUARD, "9", 17, "replay: entry"),
+    ("a guarded replay of another name", OTHER_NAME_WITH_GLOBAL, ONE_DEFINED + GUARD, "9", 17, "replay: entry"),
+    (
+        "a global `_start` of a guarded replay",
+        # (module (global i32 i32.const 0) (func) (export "_start" (global 0)))
+        bytes.fromhex(
+            "0061736d01000000010401600000030201000606017f0041000b070a01065f737461727403000a040102000b"
+        ),
+        ONE_DEFINED + GUARD,
+        "9",
+        17,
+        "replay: entry",
+    ),
+    (
+        "a guarded replay with a memory",
+        # (module (memory 1) (func (export "_start")) (export "memory" (memory 0)))
+        bytes.fromhex(
+            "0061736d01000000010401600000030201000503010001071302065f73746172740000066d656d6f727902000a040102000b"
+        ),
+        ONE_DEFINED + GUARD,
+        "9",
+        17,
+        "replay: entry",
+    ),
+    (
+        "a guarded replay with two functions",
+        # (module (global i32 i32.const 0) (func (export "_start") (export "again")) (export "passed" (global 0)))
+        bytes.fromhex(
+            "0061736d01000000010401600000030201000606017f0041000b071b03065f7374617274000005616761696e0000067061737365"
+            "6403000a040102000b"
+        ),
+        ONE_DEFINED + GUARD,
         "9",
         17,
         "replay: entry",
