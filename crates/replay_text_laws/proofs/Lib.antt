@@ -2,4 +2,4 @@ mod UnrefusedCode
 mod Accepted
 mod Texts
 mod Histories
-mod Instances
+mod WorldTexts

@@ -1,5 +1,5 @@
 -- The law.
-use Rattle.replay_text_laws.proofs.Instances as instances
+use Rattle.replay_text_laws.proofs.WorldTexts as instances
 use Rattle.replay_text_laws.proofs.instances.pair_replays_print_histories.Goals as goal
 
 pub returns : goal.returns
