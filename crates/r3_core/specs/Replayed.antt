@@ -6,8 +6,8 @@ use Rattle.r3_core.specs.Meanings.{Prints}
 use Rattle.replay_text_laws.specs.Histories.{IsReplayedAsHistory}
 
 -- If a job prints the replay module of a whole run, the job that prints the run's history has the same lines within
--- each budget from that of the first on; and `replay` prints exactly these of the printed bytes, within as many turns as
--- the run of the replay module takes or more.
+-- each budget from that of the first on; and `replay` prints exactly these of the printed bytes, within as many turns
+-- as the run of the replay module takes or more.
 abbrev pub IsReplayed : Job (List ℕ) → (printed : List ℕ) → Type 0
 IsReplayed (Make m s turns) printed =
     IsReplayedAsHistory (λ budget text. Prints (History m s budget) text) turns printed
