@@ -60,8 +60,20 @@ module _ (encodable : EncodedIsEncodable) (accepted_replays : ReplayModulesAreAc
 more_turns : (m : Module) (script : Script) (turns more : ℕ) (run : Run) (outcome : Outcome) → turns ≤ more
     → HasOutcome m script turns run outcome → HasOutcome m script more run outcome
 more_turns m script turns more run outcome enough ends =
-    let few = ends.within.in_budget in
-    record ends { within = record ends.within { in_budget = omega (arith, few, enough) } }
+    let within = ends.within in
+    let few = within.in_budget in
+    record {
+      initial = ends.initial;
+      starts = ends.starts;
+      within =
+          record {
+            count = within.count;
+            is_run = within.is_run;
+            over = within.over;
+            in_budget = omega (arith, few, enough);
+          };
+      ends = ends.ends;
+    }
 
 more_history : (m : Module) (script : Script) (turns more : ℕ) (text : List ℕ) → turns ≤ more
     → IsHistoryOf m script turns text → IsHistoryOf m script more text

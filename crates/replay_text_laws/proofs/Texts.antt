@@ -24,10 +24,34 @@ more_turns : (m : Module) (turns more : ℕ) (text : List ℕ) → turns ≤ mor
     → HasReplayText m more text
 more_turns m turns more text enough shown =
     let prints = shown.prints in
-    let few = prints.within.in_budget in
+    let within = prints.within in
+    let few = within.in_budget in
     record {
       printed = shown.printed;
-      prints = record prints { within = record prints.within { in_budget = omega (arith, few, enough) } };
+      prints =
+          record {
+            layout = prints.layout;
+            entry = prints.entry;
+            form = prints.form;
+            initial = prints.initial;
+            starts = prints.starts;
+            run = prints.run;
+            within =
+                record {
+                  count = within.count;
+                  is_run = within.is_run;
+                  over = within.over;
+                  in_budget = omega (arith, few, enough);
+                };
+            own = prints.own;
+            ended = prints.ended;
+            shown = prints.shown;
+            projected = prints.projected;
+            text = prints.text;
+            outcome = prints.outcome;
+            entries = prints.entries;
+            turns_are = prints.turns_are;
+          };
       lines = shown.lines;
     }
 
@@ -41,6 +65,7 @@ module _ (one_module : BytesEncodeOne) (one_layout : LayoutsAreOne) (one_result 
   -- a module's run takes one number of turns, whatever the budget
   one_run : (m : Module) (a b : ℕ) (x y : List ℕ) (first : HasReplayText m a x) (second : HasReplayText m b y)
       → first.prints.run ≡ second.prints.run
+  unfolding more_turns
   one_run m a b x y first second =
       let left = (more_turns m a (a + b) x (omega arith) first).prints in
       let right = (more_turns m b (a + b) y (omega arith) second).prints in
@@ -101,6 +126,7 @@ module _ (one_module : BytesEncodeOne) (one_layout : LayoutsAreOne) (one_result 
         (one_module Replay printed shown.m replay shown.is_module.encoded are.encoded) shown.shown
 
     replayed : IsReplayedAs printed text
+    unfolding is_shown
     replayed =
         record {
           least = are.shows.run.turns;

@@ -1,5 +1,5 @@
 -- Of what `foreign` and `pair` print, `replay` prints what `foreign-history` and `pair-history` print of the run.
-use Rattle.std.proofs.Common.{◌≡◌, ℕ, ◌≤◌, List, Ok, length, refl, sym, subst, arith, false}
+use Rattle.std.proofs.Common.{◌≡◌, ℕ, ◌≤◌, List, Ok, length, refl, sym, ap₂, subst, arith, false}
 use Rattle.base.proofs.Results.{same_ok}
 use Rattle.wasm_syntax.specs.declared.forms.Form.TheVariants.{Core}
 use Rattle.wasm_syntax.specs.declared.limits.TheConstants.{MAX_FILE_BYTES}
@@ -81,7 +81,7 @@ module _ {X : Type 0} (laws : PrintLaws) (source : Source X) (script_bytes : Lis
 -- ---- declarations
 
 same_declared : (a b : DeclaredModule) → a.checked ≡ b.checked → a.decls ≡ b.decls → a ≡ b
-same_declared a b checked decls = cc
+same_declared a b checked decls = ap₂ (λ m texts. record a { checked = m; decls = texts }) checked decls
 
 one_declared : (module_bytes decl_bytes : List ℕ) → BytesEncodeOne → (a b : DeclaredModule)
     → IsDeclared module_bytes decl_bytes a → IsDeclared module_bytes decl_bytes b → a ≡ b
@@ -122,7 +122,7 @@ foreign_replays_print_histories laws lists sizes fit accepted follow module_byte
 -- ---- pairs
 
 same_pair : (a b : ModulePair) → a.left ≡ b.left → a.right ≡ b.right → a ≡ b
-same_pair a b left right = cc
+same_pair a b left right = ap₂ (λ first second. record a { left = first; right = second }) left right
 
 one_pair : (left_bytes right_bytes : List ℕ) → BytesEncodeOne → (a b : ModulePair)
     → ArePairBytes left_bytes right_bytes a → ArePairBytes left_bytes right_bytes b → a ≡ b

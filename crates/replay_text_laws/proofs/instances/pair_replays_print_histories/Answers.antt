@@ -4,5 +4,5 @@ use Rattle.replay_text_laws.proofs.instances.pair_replays_print_histories.Goals 
 
 pub returns : goal.returns
 returns c =
-    instances.pair_replays_print_histories c.print_laws.ensures c.lists_of_encoding.ensures c.linked_are_accepted.ensures
+    instances.pair_replays_print_histories c.print_laws.ensures c.lists_of_encoding.ensures.within c.linked_are_accepted.ensures
     c.linked_outcomes_follow.ensures
