@@ -1,3 +1,4 @@
 mod Steps
 mod Called
 mod Assembly
+mod OnlyExports

@@ -1,7 +1,8 @@
 // Which replay modules have guarded modules.
 
-ghost use Rattle.std.specs.Prelude.{◌≡◌, ◌↔◌, ◌+◌, ◌≤◌, ◌++◌, IsTrue, length};
-ghost use Rattle.replay_form.specs.Forms.{IsReplayable};
+ghost use Rattle.std.specs.Prelude.{◌≡◌, ◌↔◌, ◌+◌, ◌≤◌, ◌++◌, IsTrue, Some, length};
+ghost use Rattle.history_spec.specs.Replay.{entry_function};
+ghost use Rattle.replay_form.specs.Forms.{HasEntry, IsReplayable};
 ghost use Rattle.replay_form.specs.Sides.{as_layout};
 ghost use Rattle.replay_module_spec.specs.Fragments.{referred_func, referred_funcs};
 ghost use Rattle.guarded_module_spec.specs.Forms.{IsGuardable, has_instr, is_indirect};
@@ -76,10 +77,19 @@ fn any_refers(funcs: &[Func], func: u32) -> bool
     false
 }
 
+/// Whether a replay module has no export but that of its entry: it is not guarded itself.
+pub fn exports_entry_alone(module: &Module, entry: u32) -> bool
+    requires { HasEntry «module».now entry }
+    ensures { IsTrue result ↔ (entry_function «module».now ≡ Some entry) }
+{
+    module.exports.as_slice().len() == 1
+}
+
 /// Whether a replay module has a guarded module: it has no start function and exports an appended function, to which
-/// no function refers, and no function outside the original calls through the table.
+/// no function refers, and no function outside the original calls through the table. It has no other export.
 pub fn is_guardable(module: &Module, layout: Layout, entry: u32) -> bool
-    requires { IsReplayable «module».now (as_layout layout) entry }
+    requires form { IsReplayable «module».now (as_layout layout) entry }
+    requires only { entry_function «module».now ≡ Some entry }
     ensures { IsTrue result ↔ IsGuardable «module».now (as_layout layout) entry }
 {
     let funcs = module.funcs.as_slice();

@@ -13,5 +13,5 @@ mod parts;
 mod words;
 
 pub use base::NoMemory;
-pub use forms::is_guardable;
+pub use forms::{exports_entry_alone, is_guardable};
 pub use modules::guard_of;
