@@ -44,8 +44,7 @@ LATE_TRAP = bytes.fromhex("0061736d0100000001040160000003020100070a01065f7374617
 # `_start`, and an exported global after it.
 # (module (global i32 i32.const 0) (func (export "_start")) (export "passed" (global 0)))
 WITH_GLOBAL = bytes.fromhex(
-    "0061736d01000000010401600000030201000606017f0041000b071302065f73746172740000067061737365640300"
-    "0a040102000b"
+    "0061736d01000000010401600000030201000606017f0041000b071302065f73746172740000067061737365640300" "0a040102000b"
 )
 
 # `_start` under another name, and an exported global.
@@ -56,9 +55,7 @@ OTHER_NAME_WITH_GLOBAL = bytes.fromhex(
 
 # An exported global alone.
 # (module (global i32 i32.const 0) (func) (export "passed" (global 0)))
-GLOBAL_ALONE = bytes.fromhex(
-    "0061736d01000000010401600000030201000606017f0041000b070a010670617373656403000a040102000b"
-)
+GLOBAL_ALONE = bytes.fromhex("0061736d01000000010401600000030201000606017f0041000b070a010670617373656403000a040102000b")
 
 # A name, a module, the section behind it that declares its layout, the turns, and the lines.
 SHOWN = [
@@ -252,9 +249,7 @@ REFUSED = [
     (
         "a global `_start` of a guarded replay",
         # (module (global i32 i32.const 0) (func) (export "_start" (global 0)))
-        bytes.fromhex(
-            "0061736d01000000010401600000030201000606017f0041000b070a01065f737461727403000a040102000b"
-        ),
+        bytes.fromhex("0061736d01000000010401600000030201000606017f0041000b070a01065f737461727403000a040102000b"),
         ONE_DEFINED + GUARD,
         "9",
         17,
